@@ -1,0 +1,7 @@
+mod Cutting
+mod Stepping
+mod Begun
+mod Heading
+mod Spelling
+mod Adding
+mod OneHead
