@@ -40,28 +40,28 @@ module _ (file : List ℕ) (place : ℕ) (more : place < length file) where
   pub cut-header : length (part file place) < 3 → CutShort (drop place file)
   cut-header h = record { some = simp length-drop (omega arith); few = omega (arith, ap length rest-is) }
 
-  module _ (high low : ℕ) (is-high : high ≡ getD (part file place) 1 0) (is-low : low ≡ getD (part file place) 2 0) (head : 3 ≤ length (part file place)) where
-    said-is : 256 * high + low ≡ said (drop place file)
-    said-is = ap₂ (λ x y. 256 * x + y) (is-high ∙ ap (λ l. getD l 1 0) rest-is) (is-low ∙ ap (λ l. getD l 2 0) rest-is)
+  module _ (len : ℕ) (is : len ≡ said (part file place)) (head : 3 ≤ length (part file place)) where
+    said-is : len ≡ said (drop place file)
+    said-is = is ∙ ap said rest-is
 
     tail-is : part (part file place) 3 ≡ drop 3 (drop place file)
     tail-is = take-rest (part file place) 3 ∙ ap (drop 3) rest-is
 
-    pub cut-value : length (part (part file place) 3) < 256 * high + low → CutShort (drop place file)
+    pub cut-value : length (part (part file place) 3) < len → CutShort (drop place file)
     cut-value h = record { some = simp length-drop (omega arith); few = omega (arith, said-is, ap length tail-is, length-drop 3 (drop place file), ap length rest-is) }
 
-    pub whole : high < 256 → low < 256 → 256 * high + low ≤ length (part (part file place) 3) → (k : ℕ) → k ≡ 256 * high + low → Begins (drop place file) (getD (part file place) 0 0) (take k (part (part file place) 3)) (drop (place + (3 + (256 * high + low))) file)
-    whole p q fits k is =
+    pub whole : getD (part file place) 1 0 < 256 → getD (part file place) 2 0 < 256 → len ≤ length (part (part file place) 3) → (k : ℕ) → k ≡ len → Begins (drop place file) (getD (part file place) 0 0) (take k (part (part file place) 3)) (drop (place + (3 + len)) file)
+    whole high low fits k same =
         let xs = drop place file in
-        let n : 256 * high + low ≡ said xs = said-is in
+        let n = said-is in
         let long : said xs ≤ length (drop 3 xs) = omega (arith, said-is, ap length tail-is) in
         let head′ : 3 ≤ length xs = omega (arith, ap length rest-is) in
-        let left : drop (said xs) (drop 3 xs) ≡ drop (place + (3 + (256 * high + low))) file = drop-drop (said xs) 3 xs ∙ drop-drop (3 + said xs) place file ∙ ap (λ m. drop (place + (3 + m)) file) (sym n) in
-        let b = begins xs head′ (omega (arith, is-high, ap (λ l. getD l 1 0) rest-is)) (omega (arith, is-low, ap (λ l. getD l 2 0) rest-is)) long in
-        begins-as b (ap (λ l. getD l 0 0) (sym rest-is)) (ap₂ take (sym (is ∙ n)) (sym tail-is)) left
+        let left : drop (said xs) (drop 3 xs) ≡ drop (place + (3 + len)) file = drop-drop (said xs) 3 xs ∙ drop-drop (3 + said xs) place file ∙ ap (λ m. drop (place + (3 + m)) file) (sym n) in
+        let b = begins xs head′ (omega (arith, ap (λ l. getD l 1 0) rest-is)) (omega (arith, ap (λ l. getD l 2 0) rest-is)) long in
+        begins-as b (ap (λ l. getD l 0 0) (sym rest-is)) (ap₂ take (sym (same ∙ n)) (sym tail-is)) left
 
-    pub value-long : (k : ℕ) → k ≡ 256 * high + low → 256 * high + low ≤ length (part (part file place) 3) → length (take k (part (part file place) 3)) ≡ 256 * high + low
-    value-long k is fits = length-take-le k _ (omega arith) ∙ is
+    pub value-long : (k : ℕ) → k ≡ len → len ≤ length (part (part file place) 3) → length (take k (part (part file place) 3)) ≡ len
+    value-long k same fits = length-take-le k _ (omega arith) ∙ same
 
 pub starts-at : (file : List ℕ) (place tag : ℕ) → place < length file → getD file place 0 ≡ tag → Starts tag (drop place file)
 starts-at file place tag more is = (drop (place + 1) file, drop-more file place 0 more ∙ ap (λ x. x ∷ drop (place + 1) file) is)

@@ -1,22 +1,27 @@
 -- The records of a head, as the reader takes them.
 use mathlib.Core.Path.{_≡_, refl, sym, ap, ap₂, subst, _∙_}
 use mathlib.Core.List.{List, [], _∷_, _++_}
+use mathlib.Core.Bool.{Bool, false}
+use mathlib.Core.Logic.{inl, inr, ⊎-elim}
+use Rattle.std.specs.Orderings.{Decides}
+use Rattle.std.proofs.shelf.Tests.{both-ways, cases-lt}
 use Prim.Native.Nat.{ℕ, suc, _+_, _*_, _/_, _%_, _<_, _≤_}
 use native.Mathlib.Omega.{arith}
 use lib.ListN.{length, getD}
 use denote.Ref.{RefT}
 use Rattle.std.specs.declared.option.Option.the-variants.{Some, None}
-use Rattle.std.specs.declared.result.Result.the-variants.{Ok}
+use Rattle.std.specs.declared.result.Result.the-variants.{Ok, Err}
 use Rattle.model.specs.declared.keys.KnownKeys.{KnownKeys}
 use Rattle.model.specs.declared.orders.Flags.{Flags}
 use Rattle.model.specs.declared.orders.Ladder.{Ladder}
 use Rattle.model.specs.declared.orders.Pair.{Pair}
+use Rattle.design.specs.declared.fault.Fault.{Fault}
 use Rattle.design.specs.declared.fault.Fault.the-variants.{WrongLength}
 use Rattle.design.specs.declared.records.Reader.{Reader}
 use Rattle.design.specs.declared.records.Record.{Record}
 use Rattle.design.specs.Records.{written, Begins, Starts}
 use Rattle.design.specs.Reading.{unread, Taken}
-use Rattle.design.specs.Heads.{stages-bytes, book-bytes, keys-bytes, no-keys-given, Part, HeadRead, NoStages, not-two, NoKeys, not-three}
+use Rattle.design.specs.Heads.{stages-bytes, book-bytes, keys-bytes, no-keys-given, Part, HeadRead, FirstJudged, NoStages, no-tag, other-tag, not-two, NoKeys, not-three}
 
 two : (v : List ℕ) → length v ≡ 2 → v ≡ getD v 0 0 ∷ getD v 1 0 ∷ []
 two [] h = absurd (omega arith)
@@ -50,13 +55,13 @@ module _ {before after : Reader} {x : Record} (t : Taken before x after) where
     place = omega (arith, t .on);
   }
 
-  pub keys-is : (high low : ℕ) → x .tag ≡ 3 → length (x .value .now) ≡ 3 → high ≡ getD (x .value .now) 0 0 → low ≡ getD (x .value .now) 1 0 → low < 256
-      → Part keys-bytes 3 no-keys-given before (256 * high + low, getD (x .value .now) 2 0) after
-  keys-is high low tag long p q small =
-      let set-high : getD (x .value .now) 0 0 ≡ (256 * high + low) / 256 = omega arith in
-      let set-low : getD (x .value .now) 1 0 ≡ (256 * high + low) % 256 = omega arith in
+  pub keys-is : (set : ℕ) → x .tag ≡ 3 → length (x .value .now) ≡ 3 → set ≡ 256 * getD (x .value .now) 0 0 + getD (x .value .now) 1 0 → getD (x .value .now) 1 0 < 256
+      → Part keys-bytes 3 no-keys-given before (set, getD (x .value .now) 2 0) after
+  keys-is set tag long is small =
+      let set-high : getD (x .value .now) 0 0 ≡ set / 256 = omega arith in
+      let set-low : getD (x .value .now) 1 0 ≡ set % 256 = omega arith in
       record {
-        part = Some (256 * high + low, getD (x .value .now) 2 0);
+        part = Some (set, getD (x .value .now) 2 0);
         same = refl;
         shape = written-as tag (three (x .value .now) long ∙ ap₂ (λ a b. a ∷ b ∷ getD (x .value .now) 2 0 ∷ []) set-high set-low);
         absent = λ e. let z : _≡_ {A = ℕ} 0 1 = cc in absurd (omega arith);
@@ -71,6 +76,11 @@ module _ {before after : Reader} {x : Record} (t : Taken before x after) where
 
   pub no-keys : x .tag ≡ 3 → (length (x .value .now) ≡ 3 → ⊥) → NoKeys (unread before) WrongLength
   no-keys p long = not-three (begins-with p) long
+
+-- A first record that has another tag.
+pub bad-first : {bytes v rest : List ℕ} {t : ℕ} {f : Fault} → Begins bytes t v rest → FirstJudged t (Err f) → NoStages bytes f
+bad-first {bytes} b (inl h) = subst (NoStages bytes) (sym (h .2)) (other-tag b (h .0) (h .1))
+bad-first {bytes} b (inr h) = subst (NoStages bytes) (sym (h .1)) (no-tag b (h .0))
 
 -- The stages, the book and the known keys, one after another, are a head.
 module _ (file : List ℕ) (first second third last : Reader) (small : length file ≤ 16384) (whole : unread first ≡ file) (start : first .place ≡ 0) where
@@ -89,3 +99,6 @@ module _ (file : List ℕ) (first second third last : Reader) (small : length fi
         },
         record { ladder = refl; flags = refl; book = b .same; keys = k .same; rest = refl; place = omega (arith, s .1, b .place, k .place) },
       )
+
+pub short-enough : (file : List ℕ) {r : Bool} → Decides r (16384 < length file) → r ≡ false → length file ≤ 16384
+short-enough file d e = ⊎-elim (λ long. absurd (both-ways _ e (d .1 long))) (λ h. h) (cases-lt 16384 (length file))

@@ -93,7 +93,11 @@ abbrev pub HeadRead : List ℕ → Result Head Refusal → Type 0
 HeadRead file (Ok h) = (p : Parts) × Headed file p × Holds h p
 HeadRead file (Err e) = NoHead file (e .fault) (e .place)
 
--- Its parts one by one. First the stages.
+-- Its parts one by one. First the tag that a file may begin with, and the stages.
+abbrev pub FirstJudged : ℕ → Result (Unit {0}) Fault → Type 0
+FirstJudged tag (Ok _) = tag ≡ 1
+FirstJudged tag (Err f) = ((1 < tag) × (tag ≤ 7) × (f ≡ Misplaced)) ⊎ (((tag < 1) ⊎ (7 < tag)) × (f ≡ UnknownTag))
+
 abbrev pub StagesRead : Reader → Result (Pair Ladder Flags) Refusal → Reader → Type 0
 StagesRead before (Ok s) after = (unread before ≡ stages-bytes (s .0 .0) (s .1 .0) ++ unread after) × (after .place ≡ before .place + 5)
 StagesRead before (Err e) after = NoStages (unread before) (e .fault) × (before .place ≡ 0 → e .place ≡ 0)

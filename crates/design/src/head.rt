@@ -1,10 +1,14 @@
 //! The head of a design file: its stages, its book and its known keys.
-ghost use Rattle.design.specs.Heads.{StagesRead, BookRead, KeysRead, HeadRead};
+ghost use Prim.Native.Nat.{_<_};
+ghost use lib.ListN.{length};
+ghost use Rattle.std.specs.Orderings.{Decides};
+ghost use Rattle.design.specs.Heads.{FirstJudged, StagesRead, BookRead, KeysRead, HeadRead};
 ghost use Rattle.design.specs.HeadLaws.{OneAnswer};
 use crate::fault::Fault;
 use crate::fault::Refusal;
 use crate::records::Reader;
 use crate::records::Record;
+use crate::records::big_endian;
 use crate::tags::BOOK;
 use crate::tags::HEAR;
 use crate::tags::KEYS;
@@ -34,6 +38,23 @@ pub struct Head<'a> {
     pub rest: Reader<'a>,
 }
 
+fn is_too_long(file: &[u8]) -> bool
+    ensures { λ r. ⌜ Decides r (16384 < length (now (file .entry))) ⌝ }
+{
+    file.len() > FILE_LIMIT
+}
+
+/// Whether a file may begin with a record of this tag: only with stages.
+fn judge_first(tag: u8) -> Result<(), Fault>
+    ensures { λ r. ⌜ FirstJudged tag r ⌝ }
+{
+    match tag {
+        STAGES => Ok(()),
+        BOOK..=HEAR => Err(Fault::Misplaced),
+        _ => Err(Fault::UnknownTag),
+    }
+}
+
 /// The order of the stages, by the first record of a file.
 fn stages(reader: &mut Reader<'_>) -> Result<Pair<Ladder, Flags>, Refusal>
     ensures { λ r. ⌜ StagesRead (now (reader .entry)) r (now (reader .exit)) ⌝ }
@@ -44,16 +65,8 @@ fn stages(reader: &mut Reader<'_>) -> Result<Pair<Ladder, Flags>, Refusal>
             place: 0,
         });
     };
-    match tag {
-        STAGES => {}
-        BOOK..=HEAR => return Err(Refusal {
-            fault: Fault::Misplaced,
-            place,
-        }),
-        _ => return Err(Refusal {
-            fault: Fault::UnknownTag,
-            place,
-        }),
+    if let Err(fault) = judge_first(tag) {
+        return Err(Refusal { fault, place });
     }
     let [ladder, flags] = value else {
         return Err(Refusal {
@@ -88,7 +101,7 @@ fn known_keys(reader: &mut Reader<'_>) -> Result<KnownKeys, Refusal>
         });
     };
     Ok(KnownKeys {
-        set: SymbolSet(256 * u16::from(*high) + u16::from(*low)),
+        set: SymbolSet(big_endian(*high, *low)),
         end: *end,
     })
 }
@@ -98,7 +111,7 @@ impl<'a> Head<'a> {
     pub fn read(file: &'a [u8]) -> Result<Head<'a>, Refusal>
         ensures { λ r. ⌜ HeadRead (now (file .entry)) r × OneAnswer (now (file .entry)) r ⌝ }
     {
-        if file.len() > FILE_LIMIT {
+        if is_too_long(file) {
             return Err(Refusal {
                 fault: Fault::FileTooLong,
                 place: 0,

@@ -1,5 +1,6 @@
 //! Records: a tag, a length and a value, one after another.
 ghost use mathlib.Core.Path.{_≡_};
+ghost use Prim.Native.Nat.{_+_, _*_};
 ghost use Rattle.std.specs.Orderings.{Decides};
 ghost use Rattle.design.specs.Reading.{unread, Next, NextIf};
 ghost use Rattle.design.specs.Records.{Starts};
@@ -19,6 +20,13 @@ pub struct Record<'a> {
 pub struct Reader<'a> {
     file: &'a [u8],
     place: usize,
+}
+
+/// The number that two bytes stand for, the high one first.
+pub(crate) fn big_endian(high: u8, low: u8) -> u16
+    ensures { λ r. ⌜ r ≡ 256 * high + low ⌝ }
+{
+    256 * u16::from(high) + u16::from(low)
 }
 
 impl<'a> Reader<'a> {
@@ -44,7 +52,7 @@ impl<'a> Reader<'a> {
         let [tag, high, low, tail @ ..] = &self.file[place..] else {
             return Err(cut);
         };
-        let len = 256 * usize::from(*high) + usize::from(*low);
+        let len = usize::from(big_endian(*high, *low));
         if len > tail.len() {
             return Err(cut);
         }

@@ -1,14 +1,21 @@
 //! Symbols: the keys 0 to 15 that words are made of.
+ghost use Prim.Native.Nat.{_<_};
 ghost use Rattle.std.specs.Orderings.{Decides};
 ghost use Rattle.std.specs.shelf.Lists.{All};
 ghost use Rattle.model.specs.Symbols.{Symbols, InSet};
+
+fn is_symbol(byte: u8) -> bool
+    ensures { λ r. ⌜ Decides r (byte < 16) ⌝ }
+{
+    byte < 16
+}
 
 /// Whether each byte of `word` is a symbol.
 pub fn all_symbols(word: &[u8]) -> bool
     ensures { λ r. ⌜ Decides r (Symbols (now (word .entry))) ⌝ }
 {
-    for symbol in word {
-        if *symbol > 15 {
+    for byte in word {
+        if !is_symbol(*byte) {
             return false;
         }
     }

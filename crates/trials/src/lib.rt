@@ -1,0 +1,7 @@
+//! Tests of the crates below through their public calls.
+#[cfg(test)]
+mod files;
+#[cfg(test)]
+mod orders;
+#[cfg(test)]
+mod pools;
