@@ -1,4 +1,7 @@
 //! Known keys: symbols of a set, round an end symbol.
+ghost use mathlib.Core.Path.{_≡_};
+ghost use Prim.Native.Nat.{_<_};
+ghost use Rattle.std.specs.Orderings.{Decides};
 ghost use Rattle.model.specs.Keys.{KeyWord, key-symbols};
 use crate::closing::lead_to_wanted;
 use crate::pools::Pool;
@@ -14,6 +17,15 @@ pub struct KnownKeys {
     pub end: u8,
 }
 
+impl KnownKeys {
+    /// Whether words end with `symbol`.
+    fn end_with(&self, symbol: u8) -> bool
+        ensures { λ r. ⌜ Decides r ((now (self .entry) .end < 16) × (symbol ≡ now (self .entry) .end)) ⌝ }
+    {
+        self.end < 16 && symbol == self.end
+    }
+}
+
 pub impl Pool for KnownKeys as KnownKeysPool {
     ghost words = { λ k. KeyWord (k .set .0) (k .end) };
 
@@ -23,7 +35,7 @@ pub impl Pool for KnownKeys as KnownKeysPool {
         let [keys @ .., last] = word else {
             return false;
         };
-        if self.end > 15 || *last != self.end {
+        if !self.end_with(*last) {
             return false;
         }
         self.set.has_all(keys)

@@ -30,7 +30,7 @@ impl SymbolSet {
     pub fn has(self, symbol: u8) -> bool
         ensures { λ r. ⌜ Decides r (InSet (self .0) symbol) ⌝ }
     {
-        symbol < 16 && self.0 >> symbol & 1 == 1
+        symbol < 16 && (self.0 >> symbol) % 2 == 1
     }
 
     pub fn has_all(self, word: &[u8]) -> bool
