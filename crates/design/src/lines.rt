@@ -2,9 +2,10 @@
 ghost use mathlib.Core.Path.{_≡_};
 ghost use mathlib.Core.List.{[], _∷_, _++_};
 ghost use Prim.Native.Nat.{_+_, _<_, _≤_};
+ghost use lib.Chars.{codes};
 ghost use lib.ListN.{length};
 ghost use Rattle.std.specs.Written.{decimal};
-ghost use Rattle.design.specs.Lines.{content, short-number, LineOut, stages-line, stop-line, no-line};
+ghost use Rattle.design.specs.Lines.{content, newline, short-number, LineOut, stages-line, stop-line, no-line};
 
 /// A line buffer has at least this many bytes, and every line fits into so many.
 pub const LINE_ROOM: usize = 64;
@@ -107,26 +108,34 @@ pub fn stages_line(size: u16, buffer: &mut [u8]) -> Result<usize, LineShort>
         .end(buffer)
 }
 
-/// The line of a refusal that ends the report.
-pub fn stop_line(number: u8, place: usize, buffer: &mut [u8]) -> Result<usize, LineShort>
-    ensures { λ r. ⌜ LineOut (stop-line number place) (now (buffer .entry)) r (now (buffer .exit)) ⌝ }
+/// A word, the number of a refusal, and its place.
+fn refusal_line(
+    word: &[u8],
+    number: u8,
+    place: usize,
+    buffer: &mut [u8],
+) -> Result<usize, LineShort>
+    requires { ⌜ length (now word) ≤ 5 ⌝ }
+    ensures { λ r. ⌜ LineOut (now (word .entry) ++ decimal number ++ codes " at " ++ decimal place ++ newline) (now (buffer .entry)) r (now (buffer .exit)) ⌝ }
 {
     Line::new()
-        .text(b"stop ")
+        .text(word)
         .byte(number)
         .text(b" at ")
         .number(place)
         .end(buffer)
 }
 
+/// The line of a refusal that ends the report.
+pub fn stop_line(number: u8, place: usize, buffer: &mut [u8]) -> Result<usize, LineShort>
+    ensures { λ r. ⌜ LineOut (stop-line number place) (now (buffer .entry)) r (now (buffer .exit)) ⌝ }
+{
+    refusal_line(b"stop ", number, place, buffer)
+}
+
 /// The line of a refusal after which the report goes on.
 pub fn no_line(number: u8, place: usize, buffer: &mut [u8]) -> Result<usize, LineShort>
     ensures { λ r. ⌜ LineOut (no-line number place) (now (buffer .entry)) r (now (buffer .exit)) ⌝ }
 {
-    Line::new()
-        .text(b"no ")
-        .byte(number)
-        .text(b" at ")
-        .number(place)
-        .end(buffer)
+    refusal_line(b"no ", number, place, buffer)
 }

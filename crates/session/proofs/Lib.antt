@@ -1,0 +1,17 @@
+pub mod Lists
+pub mod Distinct
+pub mod Climbs
+pub mod Runs
+pub mod Rises
+pub mod Planning
+pub mod Making
+pub mod Criterion
+pub mod Heights
+pub mod Weights
+pub mod Rounds
+pub mod Listing
+pub mod Stepping
+pub mod Meanings
+pub mod Sharing
+pub mod Designs
+pub mod Edges

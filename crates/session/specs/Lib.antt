@@ -1,0 +1,11 @@
+pub mod Lists
+pub mod Runs
+pub mod Orders
+pub mod Rises
+pub mod Supply
+pub mod Verdicts
+pub mod Rounds
+pub mod Theorems
+pub mod Notation
+pub mod Designs
+pub mod Edges
