@@ -5,3 +5,5 @@ mod files;
 mod orders;
 #[cfg(test)]
 mod pools;
+#[cfg(test)]
+mod questions;

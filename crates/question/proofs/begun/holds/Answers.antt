@@ -1,0 +1,9 @@
+use borrow.Author.Needs.{needs}
+use Rattle.std.proofs.shelf.Equals.{matches-decides, sameBytes-decides}
+use Rattle.question.proofs.begun.holds.Needs as need
+
+pub returns : need.returns
+returns c =
+    let h = matches-decides _ _ _ (c .eq .ensures) in
+    let e = c .word .ensures .value in
+    search (needs, sameBytes-decides)

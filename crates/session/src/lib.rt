@@ -1,3 +1,0 @@
-//! The session.
-
-pub mod theorems;
