@@ -14,13 +14,6 @@ use question::verdict::Verdict;
 use question::verdict::judge;
 use std::test::*;
 
-/// What the design is to get: out of reach, in reach by this climb, or too heavy.
-enum Expected<'a> {
-    Out,
-    In(&'a [u8]),
-    TooHeavy,
-}
-
 fn rule(from: u8, left: &[u8], to: u8, right: &[u8]) -> Result<Rule, Fail> {
     match Rule::new(from, left, to, right) {
         Some(rule) => Ok(rule),
@@ -28,33 +21,48 @@ fn rule(from: u8, left: &[u8], to: u8, right: &[u8]) -> Result<Rule, Fail> {
     }
 }
 
-/// From stage 0 of a ladder of five stages, the verdict on `goal` is the expected one, and the workspace is left as it must be.
-fn asked<P: Pool>(pool: &P, rules: &[Rule], goal: u8, expected: Expected<'_>) -> Result<(), Fail> {
-    let mut cells = [7; 32_770];
-    let verdict = judge(&Ladder(5), pool, rules, 0, goal, &mut cells);
-    check(cells[32_768] == 7 && cells[32_769] == 7)?;
-    match (verdict, expected) {
-        (Some(Verdict::TooHeavy), Expected::TooHeavy) => check(cells[0] == 7 && cells[32_767] == 7),
-        (Some(Verdict::Out), Expected::Out) => check(cells[0] == 0 && cells[32_767] == 0),
-        (Some(Verdict::In(climb)), Expected::In(rules)) => {
-            check(cells[0] == 0 && cells[32_767] == 0)?;
-            check(climb.as_slice() == rules)
-        }
-        _ => Err(Fail::new("another verdict")),
+/// The verdict on `goal` from stage 0 of a ladder of five stages. The cells past the 32,768th stay.
+fn verdict<P: Pool>(pool: &P, rules: &[Rule], goal: u8, first: u16) -> Result<Verdict, Fail> {
+    let mut cells = [7; 32_769];
+    let Some(verdict) = judge(&Ladder(5), pool, rules, 0, goal, &mut cells) else {
+        return Err(Fail::new("a verdict"));
+    };
+    check(cells[0] == first && cells[32_767] == first && cells[32_768] == 7)?;
+    Ok(verdict)
+}
+
+fn out<P: Pool>(pool: &P, rules: &[Rule], goal: u8) -> Result<(), Fail> {
+    match verdict(pool, rules, goal, 0)? {
+        Verdict::Out => Ok(()),
+        _ => Err(Fail::new("not out of reach")),
+    }
+}
+
+fn by<P: Pool>(pool: &P, rules: &[Rule], goal: u8, climb: &[u8]) -> Result<(), Fail> {
+    match verdict(pool, rules, goal, 0)? {
+        Verdict::In(found) => check(found.as_slice() == climb),
+        _ => Err(Fail::new("not in reach")),
+    }
+}
+
+fn heavy<P: Pool>(pool: &P, rules: &[Rule], goal: u8) -> Result<(), Fail> {
+    match verdict(pool, rules, goal, 7)? {
+        Verdict::TooHeavy => Ok(()),
+        _ => Err(Fail::new("not too heavy")),
     }
 }
 
 #[test]
 fn two_exchanges() -> Result<(), Fail> {
     let rules = [rule(0, &[1], 1, &[2])?, rule(1, &[2], 2, &[])?];
-    asked(&Book(&[2, 1, 15]), &rules, 2, Expected::In(&[0, 1]))?;
-    asked(&Book(&[]), &rules, 0, Expected::In(&[]))?;
-    asked(&Book(&[]), &rules, 1, Expected::Out)?;
+    by(&Book(&[2, 1, 15]), &rules, 2, &[0, 1])?;
+    by(&Book(&[]), &rules, 0, &[])?;
+    out(&Book(&[]), &rules, 1)?;
     let keys = KnownKeys {
         set: SymbolSet(2),
         end: 15,
     };
-    asked(&Either(Book(&[]), keys), &rules, 2, Expected::In(&[0, 1]))
+    by(&Either(Book(&[]), keys), &rules, 2, &[0, 1])
 }
 
 #[test]
@@ -64,7 +72,7 @@ fn the_kept_word() -> Result<(), Fail> {
         rule(1, &[2], 2, &[3])?,
         rule(2, &[2], 3, &[4])?,
     ];
-    asked(&Book(&[2, 1, 15]), &rules, 3, Expected::In(&[0, 1, 2]))
+    by(&Book(&[2, 1, 15]), &rules, 3, &[0, 1, 2])
 }
 
 #[test]
@@ -75,14 +83,14 @@ fn one_output_used_once() -> Result<(), Fail> {
         rule(2, &[2, 3], 3, &[6])?,
     ];
     let book = Book(&[3, 1, 4, 15, 3, 1, 3, 15]);
-    asked(&book, &rules, 3, Expected::Out)?;
-    asked(&book, &rules, 2, Expected::In(&[0, 1]))
+    out(&book, &rules, 3)?;
+    by(&book, &rules, 2, &[0, 1])
 }
 
 #[test]
 fn a_growing_word() -> Result<(), Fail> {
     let rules = [rule(0, &[1], 0, &[1, 1])?, rule(0, &[1, 1, 1, 1], 1, &[2])?];
-    asked(&Book(&[2, 1, 15]), &rules, 1, Expected::In(&[1]))
+    by(&Book(&[2, 1, 15]), &rules, 1, &[1])
 }
 
 #[test]
@@ -96,7 +104,7 @@ fn a_long_unwrapping() -> Result<(), Fail> {
         rule(0, &[6], 0, &[])?,
         rule(0, &[15], 1, &[15])?,
     ];
-    asked(&Book(&[2, 1, 15]), &rules, 1, Expected::In(&[6]))
+    by(&Book(&[2, 1, 15]), &rules, 1, &[6])
 }
 
 /// Four rules from stage to stage, with these left sides.
@@ -111,30 +119,25 @@ fn stairs(a: &[u8], b: &[u8]) -> Result<[Rule; 4], Fail> {
 
 #[test]
 fn the_weight_limit() -> Result<(), Fail> {
-    asked(&Book(&[]), &stairs(&[1], &[1])?, 4, Expected::Out)?;
-    asked(&Book(&[]), &stairs(&[1, 1], &[1])?, 4, Expected::Out)?;
-    asked(
-        &Book(&[]),
-        &stairs(&[1, 1], &[1, 1])?,
-        4,
-        Expected::TooHeavy,
-    )?;
+    out(&Book(&[]), &stairs(&[1], &[1])?, 4)?;
+    out(&Book(&[]), &stairs(&[1, 1], &[1])?, 4)?;
+    heavy(&Book(&[]), &stairs(&[1, 1], &[1, 1])?, 4)?;
     let all_bits = stairs(&[1, 1], &[1])?;
-    asked(&Book(&[2, 1, 1]), &all_bits, 4, Expected::In(&[0, 1, 2, 3]))?;
-    asked(&Book(&[1, 1]), &all_bits, 4, Expected::Out)
+    by(&Book(&[2, 1, 1]), &all_bits, 4, &[0, 1, 2, 3])?;
+    out(&Book(&[1, 1]), &all_bits, 4)
 }
 
 #[test]
 fn empty_sides() -> Result<(), Fail> {
     let rules = [rule(0, &[], 1, &[3])?, rule(1, &[3], 2, &[])?];
-    asked(&Book(&[0]), &rules, 2, Expected::In(&[0, 1]))?;
-    asked(&Book(&[]), &rules, 1, Expected::Out)?;
+    by(&Book(&[0]), &rules, 2, &[0, 1])?;
+    out(&Book(&[]), &rules, 1)?;
     let loops = [
         rule(0, &[], 0, &[1])?,
         rule(0, &[2], 1, &[])?,
         rule(0, &[1, 1], 1, &[])?,
     ];
-    asked(&Book(&[0]), &loops, 1, Expected::In(&[2]))
+    by(&Book(&[0]), &loops, 1, &[2])
 }
 
 #[test]
@@ -144,8 +147,8 @@ fn equal_rules() -> Result<(), Fail> {
         rule(0, &[1], 1, &[1])?,
         rule(0, &[1], 1, &[1])?,
     ];
-    asked(&Book(&[1, 1]), &rules, 1, Expected::In(&[1]))?;
-    asked(&Book(&[2, 3, 1]), &rules, 1, Expected::Out)
+    by(&Book(&[1, 1]), &rules, 1, &[1])?;
+    out(&Book(&[2, 3, 1]), &rules, 1)
 }
 
 #[test]
