@@ -1,4 +1,4 @@
--- Clauses that are added one after another. Assumes nothing.
+-- Clauses that are added one after another.
 use mathlib.Core.Path.{_≡_, sym, subst, ap}
 use mathlib.Core.List.{List, [], _∷_, _++_, append-assoc, append-nil}
 use Prim.Native.Nat.{ℕ, _+_, _≤_}

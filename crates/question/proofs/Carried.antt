@@ -1,4 +1,4 @@
--- Clauses over numbers accept what the clauses over bits accept. Assumes nothing.
+-- Clauses over numbers accept what the clauses over bits accept.
 use mathlib.Core.Path.{_≡_, refl, sym, subst, subst₂, ap, _∙_}
 use mathlib.Core.List.{List, _∷_, _++_}
 use Prim.Native.Nat.{ℕ, zero, suc, _<_}

@@ -1,4 +1,4 @@
--- The clauses of a climb accept the words that fit. Assumes nothing.
+-- The clauses of a climb accept the words that fit.
 use mathlib.Core.Path.{_≡_, refl}
 use mathlib.Core.List.{List, [], _∷_, _++_, append-assoc, append-nil}
 use mathlib.Core.Logic.{_↔_}

@@ -1,4 +1,4 @@
--- A table that is sound and stable decides every word. Assumes nothing.
+-- A table that is sound and stable decides every word.
 use mathlib.Core.Path.{_≡_, refl, ap, subst}
 use mathlib.Core.List.{List, [], _∷_, _++_, append-nil}
 use Prim.Native.Nat.{ℕ, _<_}
@@ -6,7 +6,7 @@ use native.Mathlib.Omega.{arith}
 use Rattle.std.specs.declared.option.Option.{Option}
 use Rattle.std.specs.declared.option.Option.the-variants.{Some, None}
 use Rattle.std.proofs.shelf.Elements.{all-append}
-use Rattle.question.specs.Rows.{Symbols}
+use Rattle.model.specs.Symbols.{Symbols}
 use Rattle.question.specs.Accepts.{Has, Stands, bodyWord, under, Accepts, by}
 use Rattle.question.specs.Marks.{Rows, cellOf, readFrom, Decided}
 use Rattle.question.specs.Stable.{True-of, Sound, Holds, Stable}

@@ -1,4 +1,4 @@
--- What a clause adds to a value. Assumes nothing.
+-- What a clause adds to a value.
 use mathlib.Core.Path.{_≡_, refl, sym, subst, _∙_}
 use mathlib.Core.Logic.{inl, inr, ⊎-elim}
 use mathlib.Core.List.{List}

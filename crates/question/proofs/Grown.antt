@@ -1,4 +1,4 @@
--- Lists that grow at their end up to a whole. Assumes nothing.
+-- Lists that grow at their end up to a whole.
 use mathlib.Core.Path.{_≡_, sym, ap, _∙_}
 use mathlib.Core.List.{List, [], _∷_, _++_, map, append-assoc, append-nil}
 use Prim.Native.Nat.{ℕ, _<_}

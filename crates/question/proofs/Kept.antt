@@ -1,4 +1,4 @@
--- Words that are kept once each, in a list that grows. Assumes nothing.
+-- Words that are kept once each, in a list that grows.
 use mathlib.Core.Path.{_≡_, refl, sym, ap, _∙_}
 use mathlib.Core.Bool.{Bool, true, false, cond}
 use mathlib.Core.List.{List, [], _∷_, _++_, map}

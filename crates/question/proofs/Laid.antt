@@ -1,4 +1,4 @@
--- Words that are laid into places of fixed size, over zeros. Assumes nothing.
+-- Words that are laid into places of fixed size, over zeros.
 use mathlib.Core.Path.{_≡_, sym, ap, subst, _∙_}
 use mathlib.Core.List.{List, [], _∷_, _++_}
 use Prim.Native.Nat.{ℕ, zero, suc, _+_, _-_, _<_, _≤_}
@@ -6,7 +6,8 @@ use native.Mathlib.Omega.{arith}
 use lib.ListN.{length, take, drop, set, getD, replicate, length-replicate}
 use Rattle.std.proofs.shelf.Elements.{all-from-getD, all-append, all-take}
 use Rattle.std.proofs.shelf.Lists.{set-at, length-append, length-take-le, append-assoc, append-nil, take-more, take-all, take-at, drop-at, take-append-drop}
-use Rattle.question.specs.Rows.{Symbols, held}
+use Rattle.model.specs.Symbols.{Symbols}
+use Rattle.question.specs.Rows.{held}
 use Rattle.question.specs.declared.row.Row.{Row}
 
 -- the word w, and zeros after it, n places in all

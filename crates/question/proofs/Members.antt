@@ -1,4 +1,4 @@
--- Laws of `All` and `between`. Assumes nothing.
+-- Laws of `All` and `between`.
 use mathlib.Core.Path.{_≡_, refl, sym, subst, ap, _∙_}
 use mathlib.Core.Bool.{Bool, true}
 use mathlib.Core.List.{List, [], _∷_}

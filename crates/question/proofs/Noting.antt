@@ -1,4 +1,4 @@
--- The list of the marks that are reached grows. Assumes nothing.
+-- The list of the marks that are reached grows.
 use mathlib.Core.Path.{refl, _∙_}
 use mathlib.Core.List.{List}
 use Prim.Native.Nat.{ℕ, _+_, _<_}

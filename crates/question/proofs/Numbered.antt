@@ -1,4 +1,4 @@
--- The bits of a climb: as many as it weighs, each with a number of its own, and all that its clauses use. Assumes nothing.
+-- The bits of a climb: as many as it weighs, each with a number of its own, and all that its clauses use.
 use mathlib.Core.Path.{_≡_, refl, sym, subst, ap, ap₂, _∙_}
 use mathlib.Core.Bool.{Bool, true, false, cond}
 use mathlib.Core.List.{List, [], _∷_, _++_, map, append-assoc, append-nil}

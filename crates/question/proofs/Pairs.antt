@@ -1,4 +1,4 @@
--- The clauses of a pair of rules of a climb. Assumes nothing.
+-- The clauses of a pair of rules of a climb.
 use mathlib.Core.Path.{_≡_, sym, subst, ap}
 use mathlib.Core.List.{List, [], _++_}
 use Prim.Native.Nat.{ℕ, _+_, _<_, _≤_}

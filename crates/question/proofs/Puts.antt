@@ -1,4 +1,4 @@
--- The bits that are left to put, loop by loop. Assumes nothing.
+-- The bits that are left to put, loop by loop.
 use mathlib.Core.Path.{_≡_, sym, ap, ap₂, _∙_}
 use mathlib.Core.List.{List, [], _∷_, _++_, map, append-assoc}
 use Prim.Native.Nat.{ℕ, _+_, _-_, _<_, _≤_}

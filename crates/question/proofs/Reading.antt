@@ -1,4 +1,4 @@
--- A word is read symbol by symbol, the last first. Assumes nothing.
+-- A word is read symbol by symbol, the last first.
 use mathlib.Core.Path.{_≡_, sym, ap, _∙_}
 use mathlib.Core.List.{List}
 use Prim.Native.Nat.{ℕ, _+_, _-_, _<_, _≤_}
@@ -6,7 +6,7 @@ use native.Mathlib.Omega.{arith}
 use lib.ListN.{length, getD, drop}
 use Rattle.std.proofs.shelf.Elements.{all-getD}
 use Rattle.std.proofs.shelf.Lists.{drop-more, drop-all}
-use Rattle.question.specs.Rows.{Symbols}
+use Rattle.model.specs.Symbols.{Symbols}
 use Rattle.question.specs.Marks.{Rows, cellOf, readFrom}
 
 -- m is the mark once the word w is read from its place i on

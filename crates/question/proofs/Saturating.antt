@@ -1,4 +1,4 @@
--- The rounds of walks, from a table of zeros until nothing changes. Assumes nothing.
+-- The rounds of walks, from a table of zeros until nothing changes.
 use mathlib.Core.Path.{_≡_, refl, sym, subst, subst₂, _∙_}
 use mathlib.Core.Bool.{Bool, false}
 use mathlib.Core.List.{List, []}

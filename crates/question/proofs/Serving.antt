@@ -1,4 +1,4 @@
--- The bits that a rule's word has to serve are gathered in a set. Assumes nothing.
+-- The bits that a rule's word has to serve are gathered in a set.
 use mathlib.Core.Path.{_≡_, refl, ap, _∙_}
 use mathlib.Core.Bool.{Bool, true, false, cond}
 use mathlib.Core.List.{List, [], _∷_, _++_, map}

@@ -1,4 +1,4 @@
--- The number of a bit, and sets of numbers. Assumes nothing.
+-- The number of a bit, and sets of numbers.
 use mathlib.Core.Path.{_≡_, refl, sym, subst, ap, _∙_}
 use mathlib.Core.Bool.{Bool, false, cond}
 use mathlib.Core.List.{List, [], _∷_, _++_, map}

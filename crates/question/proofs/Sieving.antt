@@ -1,4 +1,4 @@
--- A sieve reads a saturated table as the table is meant to be read. Assumes nothing.
+-- A sieve reads a saturated table as the table is meant to be read.
 use mathlib.Core.Path.{_≡_, refl, sym, ap, subst, _∙_}
 use mathlib.Core.Bool.{cond}
 use mathlib.Core.List.{List, [], _∷_}
@@ -7,7 +7,7 @@ use Prim.Native.Nat.{ℕ, _<_}
 use native.Mathlib.Omega.{arith}
 use Rattle.model.specs.Sieves.{mark, next, run}
 use Rattle.std.proofs.shelf.Tests.{lt-ltb}
-use Rattle.question.specs.Rows.{Symbols}
+use Rattle.model.specs.Symbols.{Symbols}
 use Rattle.question.specs.Accepts.{Has, Accepts}
 use Rattle.question.specs.Marks.{Rows, readFrom, Saturated}
 use Rattle.question.proofs.Deciding.{read-below}

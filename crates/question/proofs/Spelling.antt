@@ -1,4 +1,4 @@
--- A left side is spelled symbol by symbol. Assumes nothing.
+-- A left side is spelled symbol by symbol.
 use mathlib.Core.Path.{_≡_, refl, sym, ap, ap₂, _∙_}
 use mathlib.Core.List.{List, [], _∷_}
 use Prim.Native.Nat.{ℕ, _+_, _<_, _≤_}

@@ -1,4 +1,4 @@
--- The mark of the empty word grows. Assumes nothing.
+-- The mark of the empty word grows.
 use mathlib.Core.Path.{_≡_, refl, sym, subst, _∙_}
 use mathlib.Core.List.{List, []}
 use Prim.Native.Nat.{ℕ, _+_, _<_}

@@ -1,4 +1,4 @@
--- A walk over the staying rules of a stage. Assumes nothing.
+-- A walk over the staying rules of a stage.
 use mathlib.Core.Path.{_≡_, sym, ap, _∙_}
 use mathlib.Core.Bool.{Bool, true, false, cond}
 use mathlib.Core.List.{List, [], _∷_, _++_}

@@ -1,4 +1,4 @@
--- What a turn does to the table. Assumes nothing.
+-- What a turn does to the table.
 use mathlib.Core.Path.{_≡_, refl, sym, ap, subst, subst₂, _∙_}
 use mathlib.Core.Bool.{Bool, false, not, _||_}
 use mathlib.Core.Logic.{⊎-elim}

@@ -1,4 +1,4 @@
--- The walk over the list of the marks that are reached. Assumes nothing.
+-- The walk over the list of the marks that are reached.
 use mathlib.Core.Path.{_≡_, sym, subst}
 use mathlib.Core.Bool.{Bool, false, _||_}
 use mathlib.Core.List.{List}

@@ -1,4 +1,4 @@
--- Which words each bit accepts, by a list of clauses. Assumes nothing.
+-- Which words each bit accepts, by a list of clauses.
 --
 -- A word is a list of symbols, outermost first. A set of bits is a number.
 use mathlib.Core.Path.{_≡_}

@@ -1,4 +1,4 @@
--- What a table of marks says of words. Assumes nothing.
+-- What a table of marks says of words.
 --
 -- A mark is a set of bits below 2048. The table has a row of 16 cells for each mark: the mark of a·x stands
 -- in row `mark of x`, at the symbol a.
@@ -6,7 +6,7 @@ use mathlib.Core.Logic.{_↔_}
 use mathlib.Core.List.{List, [], _∷_}
 use Prim.Native.Nat.{ℕ, _+_, _*_, _<_, _≤_}
 use lib.ListN.{length, getD}
-use Rattle.question.specs.Rows.{Symbols}
+use Rattle.model.specs.Symbols.{Symbols}
 use Rattle.question.specs.Accepts.{Has, Accepts}
 use Rattle.question.specs.declared.clause.Clause.{Clause}
 

@@ -3,7 +3,8 @@ use mathlib.Core.List.{List, map}
 use Prim.Native.Nat.{ℕ, _<_, _≤_}
 use lib.ListN.{length, getD}
 use Rattle.question.specs.Runs.{Word, Rule, Climb}
-use Rattle.question.specs.Rows.{Symbols, held}
+use Rattle.model.specs.Symbols.{Symbols}
+use Rattle.question.specs.Rows.{held}
 use Rattle.question.specs.declared.row.Row.{Row}
 use Rattle.question.specs.declared.rule.Rule.{Rule as Held}
 

@@ -1,4 +1,4 @@
--- When a table is right: it claims nothing that does not follow, and nothing is left to add. Assumes nothing.
+-- When a table is right: it claims nothing that does not follow, and nothing is left to add.
 use mathlib.Core.Path.{_≡_}
 use mathlib.Core.Bool.{Bool, true, false}
 use mathlib.Core.List.{List, [], _∷_}

@@ -1,4 +1,4 @@
--- The list of the marks that are reached. Assumes nothing.
+-- The list of the marks that are reached.
 use mathlib.Core.Path.{_≡_}
 use mathlib.Core.List.{List}
 use Prim.Native.Nat.{ℕ, _<_, _≤_}

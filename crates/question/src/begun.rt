@@ -15,20 +15,20 @@ use crate::row::Row;
 use crate::rule::Rule;
 
 /// The most that a climb may weigh, and so the most bits that it has.
-pub const LIMIT: usize = 11;
+pub(crate) const LIMIT: usize = 11;
 
 /// Different words, of which a stage of a climb that is not too heavy has no more than there is room for.
-pub type Words = Few<Row<4>, LIMIT>;
+pub(crate) type Words = Few<Row<4>, LIMIT>;
 
 /// Whether the row holds the word.
-pub fn holds(row: &Row<4>, word: &[u8]) -> bool
+pub(crate) fn holds(row: &Row<4>, word: &[u8]) -> bool
     ensures { λ r. ⌜ r ≡ sameBytes (now (word .entry)) (held (now (row .entry))) ⌝ }
 {
     word == row.word()
 }
 
 /// The first `m` symbols of a left side, and not the whole.
-pub fn beginning(left: &Row<4>, m: usize) -> Row<4>
+pub(crate) fn beginning(left: &Row<4>, m: usize) -> Row<4>
     requires { ⌜ m < length (held (now left)) ⌝ }
     ensures { λ r. ⌜ held r ≡ take m (held (now (left .entry))) ⌝ }
 {
@@ -70,7 +70,7 @@ fn keep_beginnings(words: &mut Words, left: &Row<4>) -> Option<()>
 }
 
 /// The different beginnings of left sides of the stage's staying rules; `None` if there are too many.
-pub fn begun(rules: &[Rule], stage: u8) -> Option<Words>
+pub(crate) fn begun(rules: &[Rule], stage: u8) -> Option<Words>
     ensures { λ r. ⌜ Cases r (11 < height (rulesOf (now (rules .entry))) stage) (λ words. wordsOf (listed words) ≡ begunAt (rulesOf (now (rules .entry))) stage) ⌝ }
 {
     let mut words = Few::new(Row::empty());

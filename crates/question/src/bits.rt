@@ -23,7 +23,7 @@ use crate::rule::changing;
 
 /// The bit of rule `goal` of a climb, at the stage before rule `at`, once `begun` is read.
 #[derive(Clone, Copy)]
-pub struct Slot {
+pub(crate) struct Slot {
     at: u8,
     goal: u8,
     begun: Row<4>,
@@ -31,7 +31,7 @@ pub struct Slot {
 
 /// The bits of a climb that is not too heavy. The number of a bit is its place.
 #[derive(Drop)]
-pub struct Bits {
+pub(crate) struct Bits {
     slots: Few<Slot, LIMIT>,
 }
 
@@ -46,7 +46,7 @@ impl Slot {
 
 impl Bits {
     /// The bits of a climb; `None` if it is too heavy.
-    pub fn of(rules: &[Rule], climb: &[u8]) -> Option<Bits>
+    pub(crate) fn of(rules: &[Rule], climb: &[u8]) -> Option<Bits>
         requires { ⌜ Climbing (now rules) (now climb) ⌝ }
         ensures { λ r. ⌜ Cases r (weight-limit < weight (rulesOf (now (rules .entry))) (now (climb .entry))) (Tabled (rulesOf (now (rules .entry))) (now (climb .entry))) ⌝ }
     {
@@ -68,7 +68,7 @@ impl Bits {
     }
 
     /// The number of a bit of the climb.
-    pub fn number(&self, at: u8, goal: u8, begun: &[u8]) -> u8
+    pub(crate) fn number(&self, at: u8, goal: u8, begun: &[u8]) -> u8
         requires { ⌜ In (bit at goal (now begun)) (bitsOf (now self)) ⌝ }
         ensures is { λ r. ⌜ r ≡ place (bit at goal (now (begun .entry))) (bitsOf (now (self .entry))) ⌝ }
         ensures below { λ r. ⌜ r < 11 ⌝ }
@@ -83,7 +83,7 @@ impl Bits {
     }
 
     /// The set of one bit of the climb.
-    pub fn only(&self, at: u8, goal: u8, begun: &[u8]) -> u16
+    pub(crate) fn only(&self, at: u8, goal: u8, begun: &[u8]) -> u16
         requires { ⌜ In (bit at goal (now begun)) (bitsOf (now self)) ⌝ }
         ensures { λ r. ⌜ Set-of (bitsOf (now (self .entry))) (bit at goal (now (begun .entry)) ∷ []) r ⌝ }
     {

@@ -6,7 +6,7 @@ use crate::row::Row;
 /// Says, of every word x: if each bit of `body` accepts word·x, then the bit `head` accepts symbol·x, or x itself where
 /// there is no symbol.
 #[derive(Clone, Copy)]
-pub struct Clause {
+pub(crate) struct Clause {
     pub head: u8,
     pub symbol: Option<u8>,
     pub word: Row<4>,

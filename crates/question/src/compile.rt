@@ -28,13 +28,13 @@ const MOST: usize = 2112;
 
 /// The clauses of a climb with suppliers.
 #[derive(Drop)]
-pub struct Clauses {
+pub(crate) struct Clauses {
     items: Few<Clause, MOST>,
 }
 
 impl Clauses {
     /// No clause.
-    pub fn none() -> Clauses
+    pub(crate) fn none() -> Clauses
         ensures { λ r. ⌜ clausesOf r ≡ [] ⌝ }
     {
         let blank = Clause {
@@ -49,14 +49,14 @@ impl Clauses {
     }
 
     /// The clauses in order.
-    pub fn as_slice(&self) -> &[Clause]
+    pub(crate) fn as_slice(&self) -> &[Clause]
         ensures { λ r. ⌜ now r ≡ clausesOf (now (self .entry)) ⌝ }
     {
         self.items.as_slice()
     }
 
     /// Makes these the clauses of a climb with suppliers: 0 for the pool, and j + 1 for rule j.
-    pub fn fill(&mut self, bits: &Bits, rules: &[Rule], climb: &[u8], suppliers: &[u8])
+    pub(crate) fn fill(&mut self, bits: &Bits, rules: &[Rule], climb: &[u8], suppliers: &[u8])
         requires { ⌜ Ready (now bits) (now rules) (now climb) (now suppliers) ⌝ }
         ensures { λ _. ⌜ Right (rulesOf (now (rules .entry))) (now (climb .entry)) (now (suppliers .entry)) (clausesOf (now (self .exit))) ⌝ }
     {

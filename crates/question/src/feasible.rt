@@ -105,7 +105,7 @@ fn ways(n: usize) -> u8
 }
 
 /// Whether some run from the pool has exactly this climb, if it is a rise and not too heavy. Of one that is too heavy it says no.
-pub fn feasible<Q: Pool>(pool: &Q, rules: &[Rule], climb: &[u8], table: &mut [u16]) -> bool
+pub(crate) fn feasible<Q: Pool>(pool: &Q, rules: &[Rule], climb: &[u8], table: &mut [u16]) -> bool
     requires climbing { ⌜ Climbing (now rules) (now climb) ⌝ }
     requires long { ⌜ 32768 ≤ length (now table) ⌝ }
     ensures decides { λ r. ⌜ Decides r (Servable (rulesOf (now (rules .entry))) (Q·Pool .words (now (pool .entry))) (now (climb .entry))) ⌝ }

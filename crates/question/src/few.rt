@@ -7,7 +7,7 @@ mod methods;
 
 /// At most `N` items: the first `count` of `items`.
 #[derive(Drop)]
-pub struct Few<T, const N: usize> {
+pub(crate) struct Few<T, const N: usize> {
     count: usize,
     items: [T; N],
     ghost short: { count ≤ N },

@@ -88,7 +88,7 @@ fn apply(clause: &Clause, table: &mut [u16], mark: u16) -> bool
 }
 
 /// Brings the cells of `mark` up to date, and says whether one changed.
-pub fn row(clauses: &[Clause], table: &mut [u16], mark: u16) -> bool
+pub(crate) fn row(clauses: &[Clause], table: &mut [u16], mark: u16) -> bool
     requires rows { ⌜ Rows (now table) ⌝ }
     requires mark { ⌜ mark < 2048 ⌝ }
     ensures turn { λ r. ⌜ Turn (_≡_ (now (clauses .entry))) (now (table .entry)) (now (table .exit)) r ⌝ }
@@ -114,7 +114,7 @@ fn start_by(clause: &Clause, table: &[u16], old: u16) -> u16
 }
 
 /// The mark of the empty word, with what the clauses add to it.
-pub fn start(clauses: &[Clause], table: &[u16], old: u16) -> u16
+pub(crate) fn start(clauses: &[Clause], table: &[u16], old: u16) -> u16
     requires rows { ⌜ Rows (now table) ⌝ }
     requires mark { ⌜ old < 2048 ⌝ }
     ensures started { λ r. ⌜ Started (_≡_ (now (clauses .entry))) (now (table .entry)) old r ⌝ }

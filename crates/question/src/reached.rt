@@ -4,14 +4,12 @@ ghost use Prim.Native.Nat.{_<_};
 ghost use Rattle.question.specs.Marks.{Rows};
 ghost use Rattle.question.specs.Walks.{Listed, Extends, Seen-in, Row-seen};
 use super::mark::next;
-
-/// So many marks there are.
-const MARKS: usize = 2048;
+use model::sieve::MARKS;
 
 /// All marks: first the `len` that are reached, in the order in which they were, and then the others. `place` says where
 /// in `list` a mark stands.
 #[derive(Drop)]
-pub struct Reached {
+pub(crate) struct Reached {
     pub list: [u16; 2048],
     pub place: [u16; 2048],
     pub len: u16,
@@ -19,7 +17,7 @@ pub struct Reached {
 
 impl Reached {
     /// No mark is reached.
-    pub fn none() -> Reached
+    pub(crate) fn none() -> Reached
         ensures listed { λ r. ⌜ Listed r ⌝ }
         ensures none { λ r. ⌜ r .len ≡ 0 ⌝ }
     {
@@ -35,7 +33,7 @@ impl Reached {
     }
 
     /// No mark is reached any more.
-    pub fn clear(&mut self)
+    pub(crate) fn clear(&mut self)
         requires { ⌜ Listed (now self) ⌝ }
         ensures listed { λ _. ⌜ Listed (now (self .exit)) ⌝ }
         ensures none { λ _. ⌜ now (self .exit) .len ≡ 0 ⌝ }
@@ -44,7 +42,7 @@ impl Reached {
     }
 
     /// Adds the mark, unless it is there.
-    pub fn add(&mut self, mark: u16)
+    pub(crate) fn add(&mut self, mark: u16)
         requires listed { ⌜ Listed (now self) ⌝ }
         requires mark { ⌜ mark < 2048 ⌝ }
         ensures listed { λ _. ⌜ Listed (now (self .exit)) ⌝ }
@@ -64,7 +62,7 @@ impl Reached {
     }
 
     /// Adds the marks that the row of `mark` leads to.
-    pub fn add_row(&mut self, table: &[u16], mark: u16)
+    pub(crate) fn add_row(&mut self, table: &[u16], mark: u16)
         requires listed { ⌜ Listed (now self) ⌝ }
         requires rows { ⌜ Rows (now table) ⌝ }
         requires mark { ⌜ mark < 2048 ⌝ }

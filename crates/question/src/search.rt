@@ -8,12 +8,12 @@ ghost use Rattle.std.specs.Options.{Cases};
 ghost use Rattle.std.specs.Orderings.{Decides};
 ghost use Rattle.question.specs.Rises.{Rise};
 ghost use Rattle.question.specs.Rules.{ruleOf, rulesOf};
-ghost use Rattle.question.specs.Search.{Changes, Passes, Short-rise, Sought, climbOf};
+ghost use Rattle.question.specs.Search.{Changes, Passes, Short-rise, Sought};
 use crate::climb::Climb;
 use crate::rule::Rule;
 
 /// A question that can be put to a climb.
-pub trait Feasible {
+pub(crate) trait Feasible {
     /// the question can be put to the climb
     ghost ready: { Self → List ℕ → Type 0 };
 
@@ -25,16 +25,6 @@ pub trait Feasible {
         requires room { ⌜ 32768 ≤ length (now work) ⌝ }
         ensures decides { λ r. ⌜ Decides r (serves (now (self .entry)) (now (climb .entry))) ⌝ }
         ensures rest { λ _. ⌜ drop 32768 (now (work .exit)) ≡ drop 32768 (now (work .entry)) ⌝ };
-}
-
-impl Climb {
-    pub fn as_slice(&self) -> &[u8]
-        ensures value { λ r. ⌜ now r ≡ climbOf (now (self .entry)) ⌝ }
-        ensures short { λ r. ⌜ length (now r) ≤ 4 ⌝ }
-    {
-        let all = &self.rules[..];
-        &all[0..self.len as usize]
-    }
 }
 
 impl Rule {
@@ -70,7 +60,7 @@ fn next(rules: &[Rule], within: bool, stage: u8, k: u8) -> Option<u8>
 }
 
 /// The earliest rise of at most four rules from `stage` to `goal` that serves.
-pub fn earliest<F: Feasible>(
+pub(crate) fn earliest<F: Feasible>(
     rules: &[Rule],
     stage: u8,
     goal: u8,

@@ -12,10 +12,10 @@ use super::growth::start;
 use super::reached::Reached;
 
 /// The cells of all marks.
-const CELLS: usize = 32768;
+pub(crate) const CELLS: usize = 32768;
 
 /// Makes each cell of the table 0.
-pub fn clear(table: &mut [u16])
+pub(crate) fn clear(table: &mut [u16])
     requires { ⌜ 32768 ≤ length (now table) ⌝ }
     ensures zeros { λ _. ⌜ ((k : ℕ) → k < 32768 → getD (now (table .exit)) k 0 ≡ 0) ⌝ }
     ensures rest { λ _. ⌜ drop 32768 (now (table .exit)) ≡ drop 32768 (now (table .entry)) ⌝ }
@@ -69,7 +69,7 @@ fn run(clauses: &[Clause], table: &mut [u16]) -> u16
 
 /// Fills the table, and returns the mark of the empty word. For every word of the sixteen symbols, a bit is then in the
 /// word's mark exactly where it accepts the word.
-pub fn saturate(clauses: &[Clause], table: &mut [u16]) -> u16
+pub(crate) fn saturate(clauses: &[Clause], table: &mut [u16]) -> u16
     requires { ⌜ 32768 ≤ length (now table) ⌝ }
     ensures rest { λ _. ⌜ drop 32768 (now (table .exit)) ≡ drop 32768 (now (table .entry)) ⌝ }
     ensures saturated { λ r. ⌜ Saturated (now (clauses .entry)) (now (table .exit)) r ⌝ }

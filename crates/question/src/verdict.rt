@@ -12,6 +12,7 @@ use crate::feasible::feasible;
 use crate::rule::Rule;
 use crate::search::Feasible;
 use crate::search::earliest;
+use crate::table::CELLS;
 use crate::table::clear;
 use crate::weighing::is_heavy;
 use model::orders::Order;
@@ -19,9 +20,6 @@ use model::pools::Pool;
 
 /// So many rules there may be.
 const MOST_RULES: usize = 32;
-
-/// So many cells the workspace has at least.
-const CELLS: usize = 32768;
 
 /// What is said of a goal.
 #[derive(Clone, Copy)]

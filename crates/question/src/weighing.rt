@@ -95,7 +95,7 @@ fn one_more(rules: &[Rule], n: u8, weights: &Weights) -> Weights
 }
 
 /// Whether some rise from `stage` to `goal` is too heavy.
-pub fn is_heavy(rules: &[Rule], stage: u8, goal: u8) -> bool
+pub(crate) fn is_heavy(rules: &[Rule], stage: u8, goal: u8) -> bool
     requires { ⌜ length (now rules) ≤ 32 ⌝ }
     ensures { λ r. ⌜ (Never-long (rulesOf (now (rules .entry))) → Decides r (Heavy (rulesOf (now (rules .entry))) stage goal)) ⌝ }
 {

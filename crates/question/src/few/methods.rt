@@ -8,7 +8,7 @@ use super::Few;
 
 impl<T: Copy, const N: usize> Few<T, N> {
     /// No item. `blank` fills the places that are not used.
-    pub fn new(blank: T) -> Few<T, N>
+    pub(crate) fn new(blank: T) -> Few<T, N>
         ensures { λ r. ⌜ listed r ≡ [] ⌝ }
     {
         Few {
@@ -18,14 +18,14 @@ impl<T: Copy, const N: usize> Few<T, N> {
     }
 
     /// Forgets the items.
-    pub fn clear(&mut self)
+    pub(crate) fn clear(&mut self)
         ensures { λ _. ⌜ listed (now (self .exit)) ≡ [] ⌝ }
     {
         self.count = 0;
     }
 
     /// Adds an item at the end.
-    pub fn push(&mut self, item: T)
+    pub(crate) fn push(&mut self, item: T)
         requires { ⌜ length (listed (now self)) < N ⌝ }
         ensures { λ _. ⌜ listed (now (self .exit)) ≡ listed (now (self .entry)) ++ item ∷ [] ⌝ }
     {
@@ -34,7 +34,7 @@ impl<T: Copy, const N: usize> Few<T, N> {
     }
 
     /// Adds an item at the end; `None` if there is no room for it.
-    pub fn offer(&mut self, item: T) -> Option<()>
+    pub(crate) fn offer(&mut self, item: T) -> Option<()>
         ensures { λ r. ⌜ Becomes N (listed (now (self .entry)) ++ item ∷ []) r (listed (now (self .exit))) ⌝ }
     {
         if self.count == N {
@@ -45,7 +45,7 @@ impl<T: Copy, const N: usize> Few<T, N> {
     }
 
     /// The items in order.
-    pub fn as_slice(&self) -> &[T]
+    pub(crate) fn as_slice(&self) -> &[T]
         ensures value { λ r. ⌜ now r ≡ listed (now (self .entry)) ⌝ }
         ensures short { λ r. ⌜ length (now r) ≤ N ⌝ }
     {

@@ -4,7 +4,8 @@ ghost use mathlib.Core.List.{[], _++_};
 ghost use Prim.Native.Nat.{_+_, _<_, _≤_};
 ghost use lib.ListN.{length};
 ghost use Rattle.std.specs.Options.{Cases};
-ghost use Rattle.question.specs.Rows.{Symbols, held};
+ghost use Rattle.model.specs.Symbols.{Symbols};
+ghost use Rattle.question.specs.Rows.{held};
 use super::Row;
 use model::symbols::all_symbols;
 
