@@ -8,6 +8,8 @@
 //! | `head` | the head of a file: its stages, its book and its known keys |
 //! | `lines` | the lines of a report |
 //! | `report` | the whole report on a file, in one call |
+#![tactic(auto)]
+
 pub mod fault;
 pub mod head;
 pub mod lines;

@@ -12,6 +12,8 @@
 //!
 //! Nothing here allocates, and no public call has a premise: any bytes, any sieve and any stage
 //! number get the answer that the definitions in `specs/` give.
+#![tactic(auto)]
+
 pub mod book;
 pub mod closing;
 pub mod keys;

@@ -13,6 +13,8 @@
 //! | `theorems` | what is proved of runs, climbs and weights |
 //!
 //! Nothing here allocates. The question works in the workspace that it is lent and in small arrays of its own.
+#![tactic(auto)]
+
 mod begun;
 mod bits;
 mod clause;

@@ -1,4 +1,6 @@
 //! Reads a design file from standard input, and writes the report on it to standard output.
+#![tactic(auto)]
+
 ghost use Rattle.std.specs.Prelude.{◌≤◌, length, IfOk};
 
 use design::head::FILE_LIMIT;

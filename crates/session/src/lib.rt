@@ -1,4 +1,5 @@
 //! The session.
+#![tactic(auto)]
 
 mod checks;
 pub mod fault;

@@ -1,4 +1,6 @@
 //! Tests of the crates below through their public calls.
+#![tactic(auto)]
+
 #[cfg(test)]
 mod files;
 #[cfg(test)]

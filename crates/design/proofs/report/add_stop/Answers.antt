@@ -3,10 +3,10 @@ use Rattle.design.specs.Lines.{stop_line}
 use Rattle.design.proofs.Adding.{put_fits, put_front, added}
 use Rattle.design.proofs.report.add_stop.Goals as goal
 
-pub slice-bounds-extend-from-slice-end : goal.slice-bounds-extend-from-slice-end
-slice-bounds-extend-from-slice-end c = omega (arith, put_fits c.in-Ok.ensures)
+pub slice-bounds-extend_from_slice-end : goal.slice-bounds-extend_from_slice-end
+slice-bounds-extend_from_slice-end c = omega (arith, put_fits c.in-Ok.ensures)
 
 pub returns : goal.returns
 returns c =
-    added c.extend-from-slice.result (vec_items c.args.out.now) _ _ _ c.extend-from-slice.ensures.items
+    added c.extend_from_slice.result (vec_items c.args.out.now) _ _ _ c.extend_from_slice.ensures.items
     (put_front c.in-Ok.ensures ∙ ap (λ n. stop_line n c.args.refusal.place) c.number.ensures)

@@ -7,7 +7,7 @@ use Rattle.model.proofs.closing.lead_to_wanted.Goals as goal
 pub loop-m-preserved : goal.loop-m-preserved
 loop-m-preserved c =
     let list = c.loop-m.list in
-    (length-set list _ _ ∙ c.loop-m.invariant.0, listed_more (Wanted c.args.sieve.wanted.now) list c.loop-m.m c.from.result (omega arith) c.loop-m.invariant.1 (listed_answer _ _ c.from.ensures c.is-wanted.ensures))
+    (length-set list _ _ ∙ c.loop-m.invariant.0, listed_more (Wanted c.args.sieve.wanted.now) list c.loop-m.m c.from.result (omega arith) c.loop-m.invariant.1 (listed_answer _ _ c.from.ensures c.is_wanted.ensures))
 
 pub loop-sieve-init : goal.loop-sieve-init
 loop-sieve-init c =

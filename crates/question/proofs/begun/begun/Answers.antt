@@ -9,19 +9,19 @@ use Rattle.question.proofs.begun.begun.Goals as goal
 pub loop-rule-init : goal.loop-rule-init
 loop-rule-init c = ap (λ l. kept (words_of l) (from_rule (λ r. beginnings r.left) c.args.stage c.args.rules.now 0)) c.new-words.ensures
 
-pub returns-in-err-keep-beginnings : goal.returns-in-err-keep-beginnings
-returns-in-err-keep-beginnings c =
-    let step = from_rule_next _ c.args.stage c.args.rules.now c.loop-rule.rule-index _ true c.loop-rule-test.true c.rule-item.is (sym c.if-not-stays-at.false ∙ c.stays-at.ensures) in
-    rw c.from-residual.ensures (kept_over _ _ _ (beginnings (held c.rule-item.result.left)) _ step c.loop-rule.invariant _ c.in-err-keep-beginnings.ensures)
+pub returns-in_err-keep_beginnings : goal.returns-in_err-keep_beginnings
+returns-in_err-keep_beginnings c =
+    let step = from_rule_next _ c.args.stage c.args.rules.now c.loop-rule.rule-index _ true c.loop-rule-test.true c.rule-item.is (sym c.if-not-stays_at.false ∙ c.stays_at.ensures) in
+    rw c.from-residual.ensures (kept_over _ _ _ (beginnings (held c.rule-item.result.left)) _ step c.loop-rule.invariant _ c.in_err-keep_beginnings.ensures)
 
 pub loop-rule-preserved : goal.loop-rule-preserved
 loop-rule-preserved c =
-    let step = from_rule_next _ c.args.stage c.args.rules.now c.loop-rule.rule-index _ true c.loop-rule-test.true c.rule-item.is (sym c.if-not-stays-at.false ∙ c.stays-at.ensures) in
-    kept_next _ _ _ (beginnings (held c.rule-item.result.left)) _ step c.loop-rule.invariant _ c.in-ok-keep-beginnings.ensures
+    let step = from_rule_next _ c.args.stage c.args.rules.now c.loop-rule.rule-index _ true c.loop-rule-test.true c.rule-item.is (sym c.if-not-stays_at.false ∙ c.stays_at.ensures) in
+    kept_next _ _ _ (beginnings (held c.rule-item.result.left)) _ step c.loop-rule.invariant _ c.in_ok-keep_beginnings.ensures
 
-pub loop-rule-preserved-then-not-stays-at : goal.loop-rule-preserved-then-not-stays-at
-loop-rule-preserved-then-not-stays-at c =
-    ap (kept _) (sym (from_rule_next _ c.args.stage c.args.rules.now c.loop-rule.rule-index _ false c.loop-rule-test.true c.rule-item.is (sym c.if-not-stays-at.true ∙ c.stays-at.ensures)))
+pub loop-rule-preserved-then-not-stays_at : goal.loop-rule-preserved-then-not-stays_at
+loop-rule-preserved-then-not-stays_at c =
+    ap (kept _) (sym (from_rule_next _ c.args.stage c.args.rules.now c.loop-rule.rule-index _ false c.loop-rule-test.true c.rule-item.is (sym c.if-not-stays_at.true ∙ c.stays_at.ensures)))
     ∙ c.loop-rule.invariant
 
 pub returns : goal.returns

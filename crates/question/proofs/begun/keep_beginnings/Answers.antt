@@ -10,15 +10,15 @@ loop-m-init c = ap (kept _) (from_one (held c.args.left.now))
 pub beginning-requires : goal.beginning-requires
 beginning-requires c = omega (arith, c.loop-m-test.true, ap length c.word-m-end.ensures.value)
 
-pub returns-in-err-keep : goal.returns-in-err-keep
-returns-in-err-keep c =
+pub returns-in_err-keep : goal.returns-in_err-keep
+returns-in_err-keep c =
     let next = from_length_next (held c.args.left.now) c.loop-m.m _ (omega (arith, c.loop-m-test.true, ap length c.word-m-end.ensures.value)) c.beginning.ensures in
-    rw c.from-residual.ensures (kept_over _ _ _ (held c.beginning.result ∷ []) _ next c.loop-m.invariant _ c.in-err-keep.ensures)
+    rw c.from-residual.ensures (kept_over _ _ _ (held c.beginning.result ∷ []) _ next c.loop-m.invariant _ c.in_err-keep.ensures)
 
 pub loop-m-preserved : goal.loop-m-preserved
 loop-m-preserved c =
     let next = from_length_next (held c.args.left.now) c.loop-m.m _ (omega (arith, c.loop-m-test.true, ap length c.word-m-end.ensures.value)) c.beginning.ensures in
-    kept_next _ _ _ (held c.beginning.result ∷ []) _ next c.loop-m.invariant _ c.in-ok-keep.ensures
+    kept_next _ _ _ (held c.beginning.result ∷ []) _ next c.loop-m.invariant _ c.in_ok-keep.ensures
 
 pub returns : goal.returns
 returns c =

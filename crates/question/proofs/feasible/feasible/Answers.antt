@@ -7,9 +7,9 @@ use Rattle.question.proofs.Deciders.{way_serves, none_serves, serves_runs}
 use Rattle.question.proofs.Ways.{way_supplies}
 use Rattle.question.proofs.feasible.feasible.Goals as goal
 
-pub returns-in-default : goal.returns-in-default
-returns-in-default g c =
-    record { decides = (λ e. absurd (clash e), λ t. absurd (omega (arith, c.in-default.ensures, t.0))); runs = λ light. absurd (omega (arith, c.in-default.ensures)); rest = refl }
+pub returns-in_default : goal.returns-in_default
+returns-in_default g c =
+    record { decides = (λ e. absurd (clash e), λ t. absurd (omega (arith, c.in_default.ensures, t.0))); runs = λ light. absurd (omega (arith, c.in_default.ensures)); rest = refl }
 
 pub loop-way-init : goal.loop-way-init
 loop-way-init g c = (record { below = λ w lt. absurd (omega arith) }, refl)

@@ -6,7 +6,7 @@ use Rattle.question.proofs.feasible.serves.Goals as goal
 
 pub returns : goal.returns
 returns g c = record {
-  serves = pooled_serves _ (g.Q.Pool.symbols c.args.pool.now) (rules_of c.args.rules.now) c.args.climb.now c.args.suppliers.now _ c.saturate-first.new.table c.saturate-first.result c.accepts-all.result
-      c.requires.ready.each c.fill.ensures (subst (λ cs. Saturated cs c.saturate-first.new.table c.saturate-first.result) c.as-slice.ensures c.saturate-first.ensures.saturated) c.accepts-all.ensures;
+  serves = pooled_serves _ (g.Q.Pool.symbols c.args.pool.now) (rules_of c.args.rules.now) c.args.climb.now c.args.suppliers.now _ c.saturate-first.new.table c.saturate-first.result c.accepts_all.result
+      c.requires.ready.each c.fill.ensures (subst (λ cs. Saturated cs c.saturate-first.new.table c.saturate-first.result) c.as_slice.ensures c.saturate-first.ensures.saturated) c.accepts_all.ensures;
   rest = c.saturate-first.ensures.rest;
 }

@@ -7,7 +7,7 @@ loop-clause-init c = starting_none c.requires.mark
 
 pub loop-clause-preserved : goal.loop-clause-preserved
 loop-clause-preserved c =
-    starting_more c.requires.rows c.loop-clause-test.true c.clause-item.is c.loop-clause.invariant c.start-by-value.ensures
+    starting_more c.requires.rows c.loop-clause-test.true c.clause-item.is c.loop-clause.invariant c.start_by-value.ensures
 
 pub returns : goal.returns
 returns c = record {

@@ -7,7 +7,7 @@ loop-i-init c = walking_none c.requires.rows c.requires.listed
 pub loop-i-preserved : goal.loop-i-preserved
 loop-i-preserved c =
     let row = c.row-changed.ensures in
-    let add = c.add-row.ensures in
+    let add = c.add_row.ensures in
     walking_more c.loop-i.invariant c.loop-i-test.true row.turn row.done add.listed add.extends add.seen
 
 pub returns : goal.returns

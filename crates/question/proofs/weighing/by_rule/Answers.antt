@@ -6,4 +6,4 @@ pub returns-then-rule : goal.returns-then-rule
 returns-then-rule c = by_staying c.args.rules.now _ c.index-rules-k.result c.requires c.index-rules-k.is _ _ c.if-rule.true
 
 pub returns : goal.returns
-returns c = by_changing c.args.rules.now _ c.index-rules-k.result c.requires c.index-rules-k.is _ _ _ c.adds.result _ c.if-rule.false c.in-ok-rest.was c.adds.ensures (omega arith)
+returns c = by_changing c.args.rules.now _ c.index-rules-k.result c.requires c.index-rules-k.is _ _ _ c.adds.result _ c.if-rule.false c.in_ok-rest.was c.adds.ensures (omega arith)

@@ -7,20 +7,20 @@ use Rattle.session.proofs.Rewriting.{rest_symbols, begins, result_is, length_res
 use Rattle.session.proofs.checks.rewritten.Goals as goal
 use Rattle.std.proofs.lemmas.Bool.Decides.{Decides-eqb}
 
-pub returns-in-default : goal.returns-in-default
-returns-in-default c =
-    let none = strip_prefix_is Decides-eqb c.word.result.now c.word-2.result.now None c.in-default.ensures.cases in
+pub returns-in_default : goal.returns-in_default
+returns-in_default c =
+    let none = strip_prefix_is Decides-eqb c.word.result.now c.word-2.result.now None c.in_default.ensures.cases in
     inl (λ b. none b.0 (c.word.ensures.value ∙ b.1 ∙ ap (λ l. l ++ b.0) (sym c.word-2.ensures.value)), refl)
 
-pub returns-in-default-joined : goal.returns-in-default-joined
-returns-in-default-joined c =
+pub returns-in_default-joined : goal.returns-in_default-joined
+returns-in_default-joined c =
     let r = rule_of c.args.rule.now in
     let w = held c.args.word.now in
     let left = c.word-2.result.now in
     let rest = c.in-Some.rest in
     let split = sym c.word.ensures.value ∙ strip_prefix_is Decides-eqb c.word.result.now left (Some rest) c.in-Some.ensures.cases in
     let long = length_result r w left rest.now c.word-2.ensures.value split c.word-3.result.now c.word-3.ensures.value in
-    inr (begins r w left rest.now c.word-2.ensures.value split, inl (λ h. c.in-default-joined.ensures (omega arith, omega arith, c.word-3.ensures.below, rest_symbols w left rest.now split (held_symbols c.args.word.now)), refl))
+    inr (begins r w left rest.now c.word-2.ensures.value split, inl (λ h. c.in_default-joined.ensures (omega arith, omega arith, c.word-3.ensures.below, rest_symbols w left rest.now split (held_symbols c.args.word.now)), refl))
 
 pub returns : goal.returns
 returns c =

@@ -5,37 +5,37 @@ use Rattle.design.proofs.Heading.{whole_head, short_enough}
 use Rattle.design.proofs.OneHead.{one_answer}
 use Rattle.design.proofs.head.Head.read.Goals as goal
 
-pub returns-then-is-too-long : goal.returns-then-is-too-long
-returns-then-is-too-long c = one_answer c.args.file.now (Err _) (too_large (c.is-too-long.ensures.0 c.if-is-too-long.true) refl refl)
+pub returns-then-is_too_long : goal.returns-then-is_too_long
+returns-then-is_too_long c = one_answer c.args.file.now (Err _) (too_large (c.is_too_long.ensures.0 c.if-is_too_long.true) refl refl)
 
-pub returns-in-err-order : goal.returns-in-err-order
-returns-in-err-order c =
+pub returns-in_err-order : goal.returns-in_err-order
+returns-in_err-order c =
     let p = err_from_is_err_and c.from-residual.result c.from-residual.ensures.1 in
-    let bad = c.in-err-order.ensures in
-    rw (p.1, p.2) (one_answer c.args.file.now (Err _) (at_stages (short_enough _ c.is-too-long.ensures c.if-is-too-long.false) (rw (← c.new-reader.ensures.0) bad.0) (bad.1 c.new-reader.ensures.1)))
+    let bad = c.in_err-order.ensures in
+    rw (p.1, p.2) (one_answer c.args.file.now (Err _) (at_stages (short_enough _ c.is_too_long.ensures c.if-is_too_long.false) (rw (← c.new-reader.ensures.0) bad.0) (bad.1 c.new-reader.ensures.1)))
 
-pub returns-in-err-book : goal.returns-in-err-book
-returns-in-err-book c =
-    let p = err_from_is_err_and c.from-residual-in-err-book.result c.from-residual-in-err-book.ensures.1 in
-    let bad = c.in-err-book.ensures in
-    let stages = c.in-ok-order.ensures in
+pub returns-in_err-book : goal.returns-in_err-book
+returns-in_err-book c =
+    let p = err_from_is_err_and c.from-residual-in_err-book.result c.from-residual-in_err-book.ensures.1 in
+    let bad = c.in_err-book.ensures in
+    let stages = c.in_ok-order.ensures in
     rw (p.1, p.2) (one_answer c.args.file.now (Err _)
-    (at_book (short_enough _ c.is-too-long.ensures c.if-is-too-long.false) _ _ _ (sym c.new-reader.ensures.0 ∙ stages.0) bad.0 bad.1 bad.2 (omega (arith, bad.3, stages.1, c.new-reader.ensures.1))))
+    (at_book (short_enough _ c.is_too_long.ensures c.if-is_too_long.false) _ _ _ (sym c.new-reader.ensures.0 ∙ stages.0) bad.0 bad.1 bad.2 (omega (arith, bad.3, stages.1, c.new-reader.ensures.1))))
 
-pub returns-in-err-keys : goal.returns-in-err-keys
-returns-in-err-keys c =
-    let p = err_from_is_err_and c.from-residual-in-err-keys.result c.from-residual-in-err-keys.ensures.1 in
-    let bad = c.in-err-keys.ensures in
-    let stages = c.in-ok-order.ensures in
-    let book = c.in-ok-book.ensures in
-    let order = c.in-ok-order.order in
+pub returns-in_err-keys : goal.returns-in_err-keys
+returns-in_err-keys c =
+    let p = err_from_is_err_and c.from-residual-in_err-keys.result c.from-residual-in_err-keys.ensures.1 in
+    let bad = c.in_err-keys.ensures in
+    let stages = c.in_ok-order.ensures in
+    let book = c.in_ok-book.ensures in
+    let order = c.in_ok-order.order in
     let shape = sym c.new-reader.ensures.0 ∙ stages.0 ∙ ap (λ l. stages_bytes order.0.0 order.1.0 ++ l) book.shape in
     rw (p.1, p.2) (one_answer c.args.file.now (Err _)
-    (at_keys (short_enough _ c.is-too-long.ensures c.if-is-too-long.false) _ _ book.part _ shape bad.0 bad.1 (omega (arith, bad.2, book.place, stages.1, c.new-reader.ensures.1))))
+    (at_keys (short_enough _ c.is_too_long.ensures c.if-is_too_long.false) _ _ book.part _ shape bad.0 bad.1 (omega (arith, bad.2, book.place, stages.1, c.new-reader.ensures.1))))
 
 pub returns : goal.returns
 returns c =
-    let head = whole_head c.args.file.now c.new-reader.result c.stages.new.reader c.book.new.reader c.known-keys.new.reader
-    (short_enough _ c.is-too-long.ensures c.if-is-too-long.false) c.new-reader.ensures.0 c.new-reader.ensures.1 c.in-ok-order.order c.in-ok-book.book c.in-ok-keys.keys
-    c.in-ok-order.ensures c.in-ok-book.ensures c.in-ok-keys.ensures in
+    let head = whole_head c.args.file.now c.new-reader.result c.stages.new.reader c.book.new.reader c.known_keys.new.reader
+    (short_enough _ c.is_too_long.ensures c.if-is_too_long.false) c.new-reader.ensures.0 c.new-reader.ensures.1 c.in_ok-order.order c.in_ok-book.book c.in_ok-keys.keys
+    c.in_ok-order.ensures c.in_ok-book.ensures c.in_ok-keys.ensures in
     one_answer c.args.file.now (Ok _) head

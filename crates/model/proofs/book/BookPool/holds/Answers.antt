@@ -8,7 +8,7 @@ use Rattle.std.proofs.lemmas.Bool.Decides.{Decides-eqb}
 
 pub returns-then-eq : goal.returns-then-eq
 returns-then-eq c =
-    let told = c.all-symbols.ensures in
+    let told = c.all_symbols.ensures in
     let same = (slice_eq-Decides Decides-eqb _ _ _ c.eq.ensures).0 c.if-eq.true in
     let here = subst (λ w. Entry w c.loop-entry.rest.now) same (first c.in-Some.ensures) in
     (λ yes. (c.loop-entry.invariant.0 here, told.0 yes), λ h. told.1 h.1)
@@ -24,4 +24,4 @@ loop-entry-preserved c =
     )
 
 pub returns : goal.returns
-returns c = (λ e. absurd (false≢true e), λ h. absurd (none c.in-default.ensures (c.loop-entry.invariant.1 h.0)))
+returns c = (λ e. absurd (false≢true e), λ h. absurd (none c.in_default.ensures (c.loop-entry.invariant.1 h.0)))

@@ -10,14 +10,14 @@ use Rattle.model.proofs.book.BookPool.meets.Goals as goal
 pub loop-entry-smaller : goal.loop-entry-smaller
 loop-entry-smaller c = rest_shorter c.in-Some.ensures
 
-pub returns-then-is-caught : goal.returns-then-is-caught
-returns-then-is-caught c =
-    let caught = c.is-caught.ensures.0 c.if-is-caught.true in
+pub returns-then-is_caught : goal.returns-then-is_caught
+returns-then-is_caught c =
+    let caught = c.is_caught.ensures.0 c.if-is_caught.true in
     (λ _. (c.in-Some.entry.now, (c.loop-entry.invariant.0 _ (first c.in-Some.ensures), caught.0), caught.1), λ _. refl)
 
 pub loop-entry-preserved : goal.loop-entry-preserved
 loop-entry-preserved c =
-    let missed = not_from_Decides _ c.is-caught.ensures c.if-is-caught.false in (
+    let missed = not_from_Decides _ c.is_caught.ensures c.if-is_caught.false in (
       λ w t. c.loop-entry.invariant.0 w (later c.in-Some.ensures t),
       λ w good t. ⊎_elim
           (λ same. absurd (missed (subst (λ v. Symbols v × Caught c.args.sieve v) (sym same) good)))
@@ -26,4 +26,4 @@ loop-entry-preserved c =
     )
 
 pub returns : goal.returns
-returns c = (λ e. absurd (false≢true e), λ h. absurd (none c.in-default.ensures (c.loop-entry.invariant.1 h.0 (h.1.1, h.2) h.1.0)))
+returns c = (λ e. absurd (false≢true e), λ h. absurd (none c.in_default.ensures (c.loop-entry.invariant.1 h.0 (h.1.1, h.2) h.1.0)))

@@ -6,7 +6,7 @@ use Rattle.model.proofs.sieve.Sieve.run.Goals as goal
 pub loop-i-init : goal.loop-i-init
 loop-i-init c =
     let self = c.args.self.now in
-    c.in-range-m.ensures ∙ sym (at_drop_all (run self.table.now (mark self.first)) c.args.word.now _ (le_refl _))
+    c.in_range-m.ensures ∙ sym (at_drop_all (run self.table.now (mark self.first)) c.args.word.now _ (le_refl _))
 
 pub loop-i-preserved : goal.loop-i-preserved
 loop-i-preserved c =

@@ -10,32 +10,32 @@ use Rattle.question.proofs.Numbered.{weighed}
 use Rattle.question.proofs.Puts.{stages_next, stages_end, tabled}
 use Rattle.question.proofs.bits.Bits.of.Goals as goal
 
-pub returns-in-err-put-stage : goal.returns-in-err-put-stage
-returns-in-err-put-stage c =
+pub returns-in_err-put_stage : goal.returns-in_err-put_stage
+returns-in_err-put_stage c =
     let rules = rules_of c.args.rules.now in
     let climb = c.args.climb.now in
     let next = stages_next rules climb c.loop-i.i _ c.loop-i-test.true c.changing-rule.ensures in
     rw c.from-residual.ensures
     (subst (λ m. 11 < m) (weighed rules climb)
-    (grown_over _ _ _ (flat_map (bits_for c.loop-i.i _) ([] ∷ begun rules c.changing-rule.result.from)) _ next c.loop-i.invariant 11 c.in-err-put-stage.ensures))
+    (grown_over _ _ _ (flat_map (bits_for c.loop-i.i _) ([] ∷ begun rules c.changing-rule.result.from)) _ next c.loop-i.invariant 11 c.in_err-put_stage.ensures))
 
-pub returns-in-err-put-left : goal.returns-in-err-put-left
-returns-in-err-put-left c =
+pub returns-in_err-put_left : goal.returns-in_err-put_left
+returns-in_err-put_left c =
     let rules = rules_of c.args.rules.now in
     let climb = c.args.climb.now in
     let next = stages_next rules climb c.loop-i.i _ c.loop-i-test.true c.changing-rule.ensures in
-    let inv = grown_next _ _ _ (flat_map (bits_for c.loop-i.i _) ([] ∷ begun rules c.changing-rule.result.from)) _ next c.loop-i.invariant _ c.in-ok-put-stage.ensures in
-    rw c.from-residual-in-err-put-left.ensures
+    let inv = grown_next _ _ _ (flat_map (bits_for c.loop-i.i _) ([] ∷ begun rules c.changing-rule.result.from)) _ next c.loop-i.invariant _ c.in_ok-put_stage.ensures in
+    rw c.from-residual-in_err-put_left.ensures
     (subst (λ m. 11 < m) (weighed rules climb)
-    (grown_over _ _ _ (map (bit c.loop-i.i c.loop-i.i) (beginnings (held c.changing-rule.result.left))) _ refl inv 11 c.in-err-put-left.ensures))
+    (grown_over _ _ _ (map (bit c.loop-i.i c.loop-i.i) (beginnings (held c.changing-rule.result.left))) _ refl inv 11 c.in_err-put_left.ensures))
 
 pub loop-i-preserved : goal.loop-i-preserved
 loop-i-preserved c =
     let rules = rules_of c.args.rules.now in
     let climb = c.args.climb.now in
     let next = stages_next rules climb c.loop-i.i _ c.loop-i-test.true c.changing-rule.ensures in
-    let inv = grown_next _ _ _ (flat_map (bits_for c.loop-i.i _) ([] ∷ begun rules c.changing-rule.result.from)) _ next c.loop-i.invariant _ c.in-ok-put-stage.ensures in
-    grown_next _ _ _ (map (bit c.loop-i.i c.loop-i.i) (beginnings (held c.changing-rule.result.left))) _ refl inv _ c.in-ok-put-left.ensures
+    let inv = grown_next _ _ _ (flat_map (bits_for c.loop-i.i _) ([] ∷ begun rules c.changing-rule.result.from)) _ next c.loop-i.invariant _ c.in_ok-put_stage.ensures in
+    grown_next _ _ _ (map (bit c.loop-i.i c.loop-i.i) (beginnings (held c.changing-rule.result.left))) _ refl inv _ c.in_ok-put_left.ensures
 
 pub returns : goal.returns
 returns c =

@@ -12,4 +12,4 @@ loop-j-preserved c =
     let climb = c.args.climb.now in
     let supplier = supplied_by c.args.suppliers.now in
     let j = c.loop-j.j in
-    adding_next c.loop-j.invariant (horns_for rules climb supplier c.args.i j) _ 132 (132 * (j + 1 - c.args.i)) _ (pairs_next rules climb supplier c.args.i j (omega arith)) (omega arith) c.add-pair.ensures
+    adding_next c.loop-j.invariant (horns_for rules climb supplier c.args.i j) _ 132 (132 * (j + 1 - c.args.i)) _ (pairs_next rules climb supplier c.args.i j (omega arith)) (omega arith) c.add_pair.ensures

@@ -14,7 +14,7 @@ loop-i-preserved c =
     let climb = c.args.climb.now in
     let supplier = supplied_by c.args.suppliers.now in
     let i = c.loop-i.i in
-    adding_next c.loop-i.invariant (horns_at rules climb supplier i) _ 528 (528 * (i + 1)) _ (horns_next rules climb supplier i (omega arith)) (omega arith) c.add-stage.ensures
+    adding_next c.loop-i.invariant (horns_at rules climb supplier i) _ 528 (528 * (i + 1)) _ (horns_next rules climb supplier i (omega arith)) (omega arith) c.add_stage.ensures
 
 pub returns : goal.returns
 returns c =

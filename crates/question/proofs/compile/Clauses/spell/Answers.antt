@@ -13,12 +13,12 @@ use Rattle.question.proofs.compile.Clauses.spell.Goals as goal
 pub number-head-requires : goal.number-head-requires
 number-head-requires c = c.requires.met 0 (omega arith)
 
-pub returns-then-is-empty : goal.returns-then-is-empty
-returns-then-is-empty c bs set =
+pub returns-then-is_empty : goal.returns-then-is_empty
+returns-then-is_empty c bs set =
     let all = bits_of c.args.bits.now in
     let right = held c.args.right.now in
     let word = c.word-word.result.now in
-    let none = sym c.word-word.ensures.value ∙ nil_from_length word (eqb-true (length word) 0 (sym c.is-empty.ensures ∙ c.if-is-empty.true)) in
+    let none = sym c.word-word.ensures.value ∙ nil_from_length word (eqb-true (length word) 0 (sym c.is_empty.ensures ∙ c.if-is_empty.true)) in
     let added = c.add.ensures all (horn (base c.args.at c.args.goal) None right bs) (record { head_is = c.number-head.ensures.is; symbol_is = refl; word_is = refl; body_is = set }) in
     subst (λ l. Adds all 4 (spelled (base c.args.at c.args.goal) l right bs) (clauses_of c.args.self.now) (clauses_of c.add.new.self)) (sym none) (adds_upto all 1 4 _ _ _ (omega arith) added)
 
@@ -43,7 +43,7 @@ loop-m-preserved c =
 pub add-requires-2 : goal.add-requires-2
 add-requires-2 c =
     let word = c.word-word.result.now in
-    let some = eqb-false (length word) 0 (sym c.is-empty.ensures ∙ c.if-is-empty.false) in
+    let some = eqb-false (length word) 0 (sym c.is_empty.ensures ∙ c.if-is_empty.false) in
     record {
       room = omega (arith, (c.loop-m.invariant []).few, c.requires.room, c.word-word.ensures.short, c.loop-m.auto.m-end);
       bit = c.number-head-2.ensures.below;
@@ -57,7 +57,7 @@ returns c bs set =
     let before = clauses_of c.args.self.now in
     let word = c.word-word.result.now in
     let last = length word - 1 in
-    let some = eqb-false (length word) 0 (sym c.is-empty.ensures ∙ c.if-is-empty.false) in
+    let some = eqb-false (length word) 0 (sym c.is_empty.ensures ∙ c.if-is_empty.false) in
     let done : c.loop-m.m ≡ last = omega (arith, c.loop-m.auto.m-end, c.loop-m-test.false) in
     let inv = subst (λ m. Spelling all c.args.at c.args.goal word right before m (clauses_of c.loop-m.self)) done c.loop-m.invariant in
     let added = c.add-2.ensures all (horn (bit c.args.at c.args.goal (take last word)) (Some (get_or word last 0)) right bs)

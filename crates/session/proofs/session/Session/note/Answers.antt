@@ -12,18 +12,18 @@ returns-then-knows g c =
     let s = c.args.self.now in
     record { kept = same_kept _; notes = is_known (subst (InPool (g.P.Pool.words s.pool) (ledger s)) c.word.ensures.value (c.knows.ensures.0 c.if-knows.true)) }
 
-pub returns-then-is-full : goal.returns-then-is-full
-returns-then-is-full g c =
+pub returns-then-is_full : goal.returns-then-is_full
+returns-then-is_full g c =
     let s = c.args.self.now in
     let lacks = not_from_Decides _ c.knows.ensures c.if-knows.false in
-    let full = c.is-full.ensures.0 c.if-is-full.true in
+    let full = c.is_full.ensures.0 c.if-is_full.true in
     record { kept = same_kept _; notes = no_place (⊎_elim (λ h. lacks (subst (InPool (g.P.Pool.words s.pool) (ledger s)) (sym c.word.ensures.value) h)) (λ room. omega (arith, full))) }
 
 pub returns : goal.returns
 returns g c =
     let s = c.args.self.now in
     let lacks = not_from_Decides _ c.knows.ensures c.if-knows.false in
-    let room = not_from_Decides _ c.is-full.ensures c.if-is-full.false in
+    let room = not_from_Decides _ c.is_full.ensures c.if-is_full.false in
     record {
       kept = record { order = refl; pool = refl };
       notes = subst (λ ws. Notes (g.P.Pool.words s.pool) (ledger s) (held c.args.word) (Ok New) (record { stage = s.stage; rules = (ledger s).rules; heard = ws })) (sym c.add.ensures)

@@ -2,8 +2,8 @@ use Rattle.std.proofs.Common.{sym, refl, ap, ◌∙◌, inl, inr, arith}
 use Rattle.std.proofs.lemmas.Bool.Decides.{not_from_Decides}
 use Rattle.session.proofs.session.Session.ready.Goals as goal
 
-pub returns-in-default : goal.returns-in-default
-returns-in-default g c = inl (λ h. omega (arith, c.in-default.ensures), refl)
+pub returns-in_default : goal.returns-in_default
+returns-in_default g c = inl (λ h. omega (arith, c.in_default.ensures), refl)
 
 pub returns-then-rule-self : goal.returns-then-rule-self
 returns-then-rule-self g c =
