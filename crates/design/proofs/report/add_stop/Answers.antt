@@ -3,8 +3,8 @@ use Rattle.design.specs.Lines.{stop_line}
 use Rattle.design.proofs.Adding.{put_fits, put_front, added}
 use Rattle.design.proofs.report.add_stop.Goals as goal
 
-pub slice-bounds-extend_from_slice-end : goal.slice-bounds-extend_from_slice-end
-slice-bounds-extend_from_slice-end c = omega (arith, put_fits c.in-Ok.ensures)
+pub slice_bounds-extend_from_slice-end : goal.slice_bounds-extend_from_slice-end
+slice_bounds-extend_from_slice-end c = omega (arith, put_fits c.in-Ok.ensures)
 
 pub returns : goal.returns
 returns c =

@@ -6,16 +6,16 @@ use Rattle.design.specs.Reports.{stages_of, no_head, headed}
 use Rattle.design.proofs.OneHead.{one_report}
 use Rattle.design.proofs.report.report.Goals as goal
 
-pub returns-in_err-add_stop : goal.returns-in_err-add_stop
-returns-in_err-add_stop c = (IfOk-from_err _ _ c.from-residual.ensures.0, one_report _)
+pub returns-in_err-add_stop-in-Err : goal.returns-in_err-add_stop-in-Err
+returns-in_err-add_stop-in-Err c = (IfOk-from_err _ _ c.from_residual.ensures.0, one_report _)
 
 pub returns-in-Err : goal.returns-in-Err
 returns-in-Err c =
     let e = c.in-Err.refusal in
-    (no_head e.fault e.place c.in-Err.ensures.0 (c.in_ok-add_stop.ensures ∙ ap (λ l. l ++ stop_line (number e.fault) e.place) c.new-out.ensures.items), one_report _)
+    (no_head e.fault e.place c.in-Err.ensures.0 (c.in_ok-add_stop-in-Err.ensures ∙ ap (λ l. l ++ stop_line (number e.fault) e.place) c.new-out.ensures.items), one_report _)
 
 pub returns-in_err-add_stages : goal.returns-in_err-add_stages
-returns-in_err-add_stages c = (IfOk-from_err _ _ c.from-residual-in_err-add_stages.ensures.0, one_report _)
+returns-in_err-add_stages c = (IfOk-from_err _ _ c.from_residual-in_err-add_stages.ensures.0, one_report _)
 
 pub returns : goal.returns
 returns c =

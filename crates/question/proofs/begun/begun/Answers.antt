@@ -12,7 +12,7 @@ loop-rule-init c = ap (λ l. kept (words_of l) (from_rule (λ r. beginnings r.le
 pub returns-in_err-keep_beginnings : goal.returns-in_err-keep_beginnings
 returns-in_err-keep_beginnings c =
     let step = from_rule_next _ c.args.stage c.args.rules.now c.loop-rule.rule-index _ true c.loop-rule-test.true c.rule-item.is (sym c.if-not-stays_at.false ∙ c.stays_at.ensures) in
-    rw c.from-residual.ensures (kept_over _ _ _ (beginnings (held c.rule-item.result.left)) _ step c.loop-rule.invariant _ c.in_err-keep_beginnings.ensures)
+    rw c.from_residual.ensures (kept_over _ _ _ (beginnings (held c.rule-item.result.left)) _ step c.loop-rule.invariant _ c.in_err-keep_beginnings.ensures)
 
 pub loop-rule-preserved : goal.loop-rule-preserved
 loop-rule-preserved c =

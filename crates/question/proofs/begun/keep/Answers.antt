@@ -11,7 +11,7 @@ pub returns-in_err-offer : goal.returns-in_err-offer
 returns-in_err-offer c =
     let rows = listed c.args.words.now in
     let new : among (held c.args.word) (words_of rows) ≡ false = cc in
-    rw c.from-residual.ensures (subst (λ l. 11 < length l) (kept_new rows c.args.word new) (omega (arith, length-map (rows ++ c.args.word ∷ []) held, c.in_err-offer.ensures)))
+    rw c.from_residual.ensures (subst (λ l. 11 < length l) (kept_new rows c.args.word new) (omega (arith, length-map (rows ++ c.args.word ∷ []) held, c.in_err-offer.ensures)))
 
 pub returns : goal.returns
 returns c =

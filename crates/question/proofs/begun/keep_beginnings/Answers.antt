@@ -13,7 +13,7 @@ beginning-requires c = omega (arith, c.loop-m-test.true, ap length c.word-m-end.
 pub returns-in_err-keep : goal.returns-in_err-keep
 returns-in_err-keep c =
     let next = from_length_next (held c.args.left.now) c.loop-m.m _ (omega (arith, c.loop-m-test.true, ap length c.word-m-end.ensures.value)) c.beginning.ensures in
-    rw c.from-residual.ensures (kept_over _ _ _ (held c.beginning.result ∷ []) _ next c.loop-m.invariant _ c.in_err-keep.ensures)
+    rw c.from_residual.ensures (kept_over _ _ _ (held c.beginning.result ∷ []) _ next c.loop-m.invariant _ c.in_err-keep.ensures)
 
 pub loop-m-preserved : goal.loop-m-preserved
 loop-m-preserved c =

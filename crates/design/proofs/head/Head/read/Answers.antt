@@ -10,13 +10,13 @@ returns-then-is_too_long c = one_answer c.args.file.now (Err _) (too_large (c.is
 
 pub returns-in_err-order : goal.returns-in_err-order
 returns-in_err-order c =
-    let p = err_from_is_err_and c.from-residual.result c.from-residual.ensures.1 in
+    let p = err_from_is_err_and c.from_residual.result c.from_residual.ensures.1 in
     let bad = c.in_err-order.ensures in
     rw (p.1, p.2) (one_answer c.args.file.now (Err _) (at_stages (short_enough _ c.is_too_long.ensures c.if-is_too_long.false) (rw (← c.new-reader.ensures.0) bad.0) (bad.1 c.new-reader.ensures.1)))
 
 pub returns-in_err-book : goal.returns-in_err-book
 returns-in_err-book c =
-    let p = err_from_is_err_and c.from-residual-in_err-book.result c.from-residual-in_err-book.ensures.1 in
+    let p = err_from_is_err_and c.from_residual-in_err-book.result c.from_residual-in_err-book.ensures.1 in
     let bad = c.in_err-book.ensures in
     let stages = c.in_ok-order.ensures in
     rw (p.1, p.2) (one_answer c.args.file.now (Err _)
@@ -24,7 +24,7 @@ returns-in_err-book c =
 
 pub returns-in_err-keys : goal.returns-in_err-keys
 returns-in_err-keys c =
-    let p = err_from_is_err_and c.from-residual-in_err-keys.result c.from-residual-in_err-keys.ensures.1 in
+    let p = err_from_is_err_and c.from_residual-in_err-keys.result c.from_residual-in_err-keys.ensures.1 in
     let bad = c.in_err-keys.ensures in
     let stages = c.in_ok-order.ensures in
     let book = c.in_ok-book.ensures in

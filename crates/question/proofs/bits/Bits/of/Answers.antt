@@ -15,7 +15,7 @@ returns-in_err-put_stage c =
     let rules = rules_of c.args.rules.now in
     let climb = c.args.climb.now in
     let next = stages_next rules climb c.loop-i.i _ c.loop-i-test.true c.changing-rule.ensures in
-    rw c.from-residual.ensures
+    rw c.from_residual.ensures
     (subst (λ m. 11 < m) (weighed rules climb)
     (grown_over _ _ _ (flat_map (bits_for c.loop-i.i _) ([] ∷ begun rules c.changing-rule.result.from)) _ next c.loop-i.invariant 11 c.in_err-put_stage.ensures))
 
@@ -25,7 +25,7 @@ returns-in_err-put_left c =
     let climb = c.args.climb.now in
     let next = stages_next rules climb c.loop-i.i _ c.loop-i-test.true c.changing-rule.ensures in
     let inv = grown_next _ _ _ (flat_map (bits_for c.loop-i.i _) ([] ∷ begun rules c.changing-rule.result.from)) _ next c.loop-i.invariant _ c.in_ok-put_stage.ensures in
-    rw c.from-residual-in_err-put_left.ensures
+    rw c.from_residual-in_err-put_left.ensures
     (subst (λ m. 11 < m) (weighed rules climb)
     (grown_over _ _ _ (map (bit c.loop-i.i c.loop-i.i) (beginnings (held c.changing-rule.result.left))) _ refl inv 11 c.in_err-put_left.ensures))
 

@@ -9,7 +9,7 @@ pub returns-in_err-put : goal.returns-in_err-put
 returns-in_err-put c =
     let u = held c.args.word.now in
     let next = goals_next c.args.at c.args.n u c.loop-goal.goal c.loop-goal-test.true in
-    rw c.from-residual.ensures (grown_over _ _ _ (bit c.args.at c.loop-goal.goal u ∷ []) _ next c.loop-goal.invariant 11 c.in_err-put.ensures)
+    rw c.from_residual.ensures (grown_over _ _ _ (bit c.args.at c.loop-goal.goal u ∷ []) _ next c.loop-goal.invariant 11 c.in_err-put.ensures)
 
 pub loop-goal-preserved : goal.loop-goal-preserved
 loop-goal-preserved c =

@@ -16,7 +16,7 @@ beginning-requires c = omega (arith, c.loop-m-test.true, ap length c.word-m-end.
 pub returns-in_err-put : goal.returns-in_err-put
 returns-in_err-put c =
     let next = left_next c.args.j (held c.args.left.now) c.loop-m.m _ (omega (arith, c.loop-m-test.true, ap length c.word-m-end.ensures.value)) c.beginning.ensures in
-    rw c.from-residual.ensures (grown_over _ _ _ (bit c.args.j c.args.j (held c.beginning.result) ∷ []) _ next c.loop-m.invariant 11 c.in_err-put.ensures)
+    rw c.from_residual.ensures (grown_over _ _ _ (bit c.args.j c.args.j (held c.beginning.result) ∷ []) _ next c.loop-m.invariant 11 c.in_err-put.ensures)
 
 pub loop-m-preserved : goal.loop-m-preserved
 loop-m-preserved c =

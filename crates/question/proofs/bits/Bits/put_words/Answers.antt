@@ -7,7 +7,7 @@ use Rattle.question.proofs.bits.Bits.put_words.Goals as goal
 pub returns-in_err-put_goals : goal.returns-in_err-put_goals
 returns-in_err-put_goals c =
     let next = words_next c.args.at c.args.n c.args.words.now c.loop-word.word-index _ c.loop-word-test.true c.word-item.is in
-    rw c.from-residual.ensures
+    rw c.from_residual.ensures
     (grown_over _ _ _ (bits_for c.args.at c.args.n (held c.word-item.result)) _ next c.loop-word.invariant 11 c.in_err-put_goals.ensures)
 
 pub loop-word-preserved : goal.loop-word-preserved

@@ -3,5 +3,5 @@ use native.Mathlib.Nat.{sub-zero}
 use Rattle.question.proofs.Laid.{laid_row}
 use Rattle.question.proofs.row.Row.empty.Goals as goal
 
-pub invariant-of-result : goal.invariant-of-result
-invariant-of-result g c = laid_row g.row.N [] (ap (λ k. replicate k 0) (sym (sub-zero g.row.N))) refl (omega arith) tt
+pub invariant_of-result : goal.invariant_of-result
+invariant_of-result g c = laid_row g.row.N [] (ap (λ k. replicate k 0) (sym (sub-zero g.row.N))) refl (omega arith) tt

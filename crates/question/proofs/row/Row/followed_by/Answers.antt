@@ -10,8 +10,8 @@ pub loop-i-preserved : goal.loop-i-preserved
 loop-i-preserved g c =
     behind_more c.args.self.now c.args.word.now c.loop-i.i c.loop-i-test.true (omega (arith, length_held c.args.self.now)) c.loop-i.invariant
 
-pub invariant-of-result : goal.invariant-of-result
-invariant-of-result g c =
+pub invariant_of-result : goal.invariant_of-result
+invariant_of-result g c =
     let row = c.args.self.now in
     let word = c.args.word.now in
     laid_row g.row.N _ (behind_all row word _ c.loop-i-test.false c.loop-i.invariant) (length_behind row word)

@@ -8,8 +8,8 @@ use Rattle.session.proofs.heard.Heard.add.Goals as goal
 pub write-requires : goal.write-requires
 write-requires c = omega (arith, length_words c.args.self.now)
 
-pub invariant-of-self : goal.invariant-of-self
-invariant-of-self c =
+pub invariant_of-self : goal.invariant_of-self
+invariant_of-self c =
     let h = c.args.self.now in
     let words = map held h.rows.places in
     let written = c.write.ensures in

@@ -12,8 +12,8 @@ bounds-self-from c = omega (arith, length_rules c.args.self.now)
 pub listed : goal.listed
 listed c = omega (arith, length_rules c.args.self.now, c.args.self.now.wide)
 
-pub invariant-of-self : goal.invariant-of-self
-invariant-of-self c =
+pub invariant_of-self : goal.invariant_of-self
+invariant_of-self c =
     let r = c.args.self.now in
     let at = c.from.result in (
       omega (arith, length_rules r),

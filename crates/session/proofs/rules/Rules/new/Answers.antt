@@ -5,8 +5,8 @@ use Rattle.session.specs.Blanks.{filled}
 use Rattle.question.proofs.Laid.{length_held}
 use Rattle.session.proofs.rules.Rules.new.Goals as goal
 
-pub invariant-of-result : goal.invariant-of-result
-invariant-of-result c =
+pub invariant_of-result : goal.invariant_of-result
+invariant_of-result c =
     let left = c.empty.result in
     let right = c.empty-2.result in
     let blank : Rule = record { from = 0; left = left; to = 0; right = right } in

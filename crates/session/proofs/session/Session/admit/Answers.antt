@@ -7,12 +7,12 @@ use Rattle.session.proofs.Answering.{refused_here, refused_out, refused_first, a
 use Rattle.session.proofs.session.Session.admit.Goals as goal
 
 pub returns-in_err-check_stages : goal.returns-in_err-check_stages
-returns-in_err-check_stages g c = refused_out numbered _ _ c.from-residual.ensures.1 (refused_first 1 _ c.in_err-check_stages.ensures)
+returns-in_err-check_stages g c = refused_out numbered _ _ c.from_residual.ensures.1 (refused_first 1 _ c.in_err-check_stages.ensures)
 
 pub returns-in_err-rule : goal.returns-in_err-rule
 returns-in_err-rule g c =
     let (stages, _) = c.in_ok-check_stages.ensures.0 in
-    refused_out numbered _ _ c.from-residual-in_err-rule.ensures.1 (refused_first 3 _ (inr (stages, c.in_err-rule.ensures)))
+    refused_out numbered _ _ c.from_residual-in_err-rule.ensures.1 (refused_first 3 _ (inr (stages, c.in_err-rule.ensures)))
 
 pub returns-then-not-at_or_above : goal.returns-then-not-at_or_above
 returns-then-not-at_or_above g c =

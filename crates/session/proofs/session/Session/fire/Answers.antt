@@ -7,12 +7,12 @@ use Rattle.session.proofs.Answering.{refused_here, refused_out, refused_first, n
 use Rattle.session.proofs.session.Session.fire.Goals as goal
 
 pub returns-in_err-row : goal.returns-in_err-row
-returns-in_err-row g c = refused_out stands_at _ _ c.from-residual.ensures.1 (refused_first 2 _ c.in_err-row.ensures)
+returns-in_err-row g c = refused_out stands_at _ _ c.from_residual.ensures.1 (refused_first 2 _ c.in_err-row.ensures)
 
 pub returns-in_err-rule : goal.returns-in_err-rule
 returns-in_err-rule g c =
     let s = c.args.self.now in
-    refused_out stands_at _ _ c.from-residual-in_err-rule.ensures.1
+    refused_out stands_at _ _ c.from_residual-in_err-rule.ensures.1
     (refused_here _ (not_ready (g.O.Order.stages s.order) (g.O.Order.above s.order) _ _ _ _ _ c.in_ok-row.ensures.0 c.in_err-rule.ensures))
 
 pub returns-in_err-made : goal.returns-in_err-made
@@ -21,7 +21,7 @@ returns-in_err-made g c =
     let (good_word, same) = c.in_ok-row.ensures in
     let (ready, is) = c.in_ok-rule.ensures in
     let rule = rule_of c.in_ok-rule.rule in
-    refused_out stands_at _ _ c.from-residual-in_err-made.ensures.1
+    refused_out stands_at _ _ c.from_residual-in_err-made.ensures.1
     (refused_here _ (no_result (g.O.Order.stages s.order) (g.O.Order.above s.order) _ _ _ _ _ _ good_word ready is (subst (λ w. RefusedBy c.in_err-made.field-0.0 (result_checks rule w)) same c.in_err-made.ensures)))
 
 pub returns-in_err-note : goal.returns-in_err-note
@@ -33,7 +33,7 @@ returns-in_err-note g c =
     let rule = rule_of c.in_ok-rule.rule in
     let noted = c.in_err-note.ensures in
     let serves = fires (g.O.Order.stages s.order) (g.O.Order.above s.order) _ _ _ _ (Err c.in_err-note.field-0.0) _ _ _ good_word ready is (subst (λ w. Passed (result_checks rule w)) same good) (made ∙ ap (result rule) same) noted.notes in
-    refused_out stands_at _ _ c.from-residual-in_err-note.ensures.1 (record { kept = noted.kept; serves = serves })
+    refused_out stands_at _ _ c.from_residual-in_err-note.ensures.1 (record { kept = noted.kept; serves = serves })
 
 pub returns : goal.returns
 returns g c =
