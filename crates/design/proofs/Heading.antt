@@ -1,5 +1,5 @@
 -- The records of a head, as the reader takes them.
-use Rattle.std.proofs.Common.{◌≡◌, ℕ, suc, ◌+◌, ◌*◌, ◌/◌, ◌%◌, ◌<◌, ◌≤◌, Bool, false, List, [], ◌∷◌, ◌++◌, length, get_or, Some, None, Ok, Err, Decides, sym, refl, ap, ◌∙◌, subst, ap₂, inl, inr, ⊎_elim, arith, Bor}
+use Rattle.std.proofs.Common.{◌≡◌, ℕ, ◌+◌, ◌*◌, ◌/◌, ◌%◌, ◌<◌, ◌≤◌, Bool, false, List, [], ◌∷◌, ◌++◌, length, get_or, Some, Ok, Err, Decides, sym, refl, ap, ◌∙◌, subst, ap₂, inl, inr, ⊎_elim, arith, Bor}
 use Rattle.std.proofs.lemmas.Bool.{both_ways, cases_lt}
 use Rattle.model.specs.declared.keys.KnownKeys.{KnownKeys}
 use Rattle.model.specs.declared.orders.Flags.{Flags}

@@ -1,5 +1,5 @@
 -- A file has one head, or one reason to have none.
-use Rattle.std.proofs.Common.{◌≡◌, ℕ, ◌+◌, ◌/◌, ◌%◌, ◌<◌, ◌≤◌, ◌⊎◌, List, [], ◌∷◌, ◌++◌, length, Some, None, Ok, Err, Option, Result, unwrap_or, sym, refl, ap, ◌∙◌, subst, ap₂, inl, inr, ⊎_elim, arith, length-append}
+use Rattle.std.proofs.Common.{◌≡◌, ℕ, ◌+◌, ◌/◌, ◌%◌, ◌<◌, ◌≤◌, List, [], ◌∷◌, ◌++◌, length, Some, None, Ok, Err, Option, Result, unwrap_or, sym, refl, ap, ◌∙◌, subst, ap₂, ⊎_elim, arith, length-append}
 use Rattle.design.specs.declared.fault.Fault.{Fault}
 use Rattle.design.specs.declared.fault.Refusal.{Refusal}
 use Rattle.design.specs.declared.head.Head.{Head}
@@ -8,7 +8,7 @@ use Rattle.design.specs.HeadLaws.{OneAnswer}
 use Rattle.design.specs.Heads.{Keys, stages_bytes, book_bytes, keys_bytes, Parts, Headed, Holds, HeadRead, NoStages, none_left, cut_stages, no_tag, other_tag, not_two, NoKeys, cut_keys, not_three, NoHead, too_large, at_stages, at_book, at_keys}
 use Rattle.design.specs.Lines.{stages_line, stop_line}
 use Rattle.design.specs.Records.{written, Begins, CutShort, Starts}
-use Rattle.design.specs.Reports.{stages_of, Reported, no_head, headed, OneReport}
+use Rattle.design.specs.Reports.{stages_of, no_head, headed, OneReport}
 use Rattle.design.proofs.Begun.{one_begins, not_cut, not_nil}
 
 -- the head's first record

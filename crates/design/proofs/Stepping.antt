@@ -1,5 +1,5 @@
 -- From one reading to the next.
-use Rattle.std.proofs.Common.{◌≡◌, ℕ, List, [], ◌∷◌, Some, None, Ok, Err, Option, Result, sym, refl, ap, ◌∙◌, subst, arith}
+use Rattle.std.proofs.Common.{◌≡◌, ℕ, [], Some, None, Ok, Err, Option, Result, subst, arith}
 use Rattle.design.specs.declared.fault.Refusal.{Refusal}
 use Rattle.design.specs.declared.records.Reader.{Reader}
 use Rattle.design.specs.declared.records.Record.{Record}

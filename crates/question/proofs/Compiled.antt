@@ -8,7 +8,7 @@ use Rattle.question.specs.Runs.{Word, Rule, Climb, rule, no_rule}
 use Rattle.question.specs.Rises.{changing, stage, stays_at, staying}
 use Rattle.question.specs.Supply.{Fits, Fits.stay, Fits.wait, Fits.apply}
 use Rattle.question.specs.Accepts.{under}
-use Rattle.question.specs.Horns.{Bit, bit, base, then_read, Horn, horn, Derives, Derives.by, spelled, by_staying, by_waiting, by_applying, served, supplied, horns_for, horns_at, horns}
+use Rattle.question.specs.Horns.{Bit, base, then_read, Horn, horn, Derives, Derives.by, spelled, by_staying, by_waiting, by_applying, served, supplied, horns_for, horns_at, horns}
 use Rattle.question.proofs.Lists.{in_left, in_right, in_kept_by, in_joined, map_in, in_numbers}
 use Rattle.question.proofs.Members.{in_one, in_get_d, all_in, all_kept_if, all_joined, all_numbers, in_between, all_between}
 

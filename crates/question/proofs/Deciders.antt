@@ -3,7 +3,7 @@ use Rattle.std.proofs.Common.{◌≡◌, ℕ, ◌<◌, ◌≤◌, Bool, ◌↔�
 use Rattle.std.proofs.lemmas.Bool.Decides.{Decides-like}
 use Rattle.model.specs.Sieves.{mark, run, Wanted}
 use Rattle.model.specs.Symbols.{Symbols}
-use Rattle.question.specs.Accepts.{Has, Accepts}
+use Rattle.question.specs.Accepts.{Has}
 use Rattle.question.specs.Coding.{Right}
 use Rattle.question.specs.Feasible.{Accepted, Pooled, Served, Servable, RunsBy}
 use Rattle.question.specs.Marks.{Saturated}

@@ -1,6 +1,5 @@
 -- Cases at the edge of the definitions.
 use Rattle.std.proofs.Common.{◌≡◌, ℕ, List, [], ◌∷◌, sym, refl, ◌∙◌, inl, inr, arith}
-use Rattle.model.specs.Books.{Entry.first}
 use Rattle.question.specs.Runs.{Rule, Climb, Reaches}
 use Rattle.question.specs.Rises.{Rise, Rise.none}
 use Rattle.question.specs.Verdicts.{Earlier}

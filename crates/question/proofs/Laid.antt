@@ -20,14 +20,21 @@ symbol_at [] ok i = omega arith
 symbol_at (s ∷ w) ok zero = ok.0
 symbol_at (s ∷ w) ok (suc i) = symbol_at w ok.1 i
 
+-- what a length and symbols must be to make a row of n places
+pub record MakesRow (n len : ℕ) (symbols : List ℕ) : Type 0 where
+  pub short : len ≤ n
+  pub wide : length symbols ≡ n
+  pub below : (i : ℕ) → get_or symbols i 0 < 16
+  pub blank : drop len symbols ≡ replicate (n - len) 0
+
 -- a word that is laid makes a row, which holds it
 module _ (n : ℕ) {len : ℕ} (w : List ℕ) {symbols : List ℕ} (is : symbols ≡ laid n w) (counted : len ≡ length w) where
-  pub laid_row : len ≤ n → Symbols w → (len ≤ n) × ((length symbols ≡ n) × (((i : ℕ) → get_or symbols i 0 < 16) × ((drop len symbols ≡ replicate (n - len) 0) × Unit {0})))
+  pub laid_row : len ≤ n → Symbols w → MakesRow n len symbols
   laid_row short ok =
       let wide : length symbols ≡ n = ap length is ∙ length-append w _ ∙ omega (arith, length-replicate {A = ℕ} (n - length w) 0) in
       let below : (i : ℕ) → get_or symbols i 0 < 16 = λ i. subst (λ s. get_or s i 0 < 16) (sym is) (symbol_at (laid n w) (All-append (λ s. s < 16) w _ ok (zeros _)) i) in
       let blank : drop len symbols ≡ replicate (n - len) 0 = ap (drop len) is ∙ drop_at w _ len (sym counted) ∙ ap (λ k. replicate (n - k) 0) (sym counted) in
-      (short, (wide, (below, (blank, tt))))
+      record { short = short; wide = wide; below = below; blank = blank }
 
   pub laid_held : take len symbols ≡ w
   laid_held = ap (take len) is ∙ take_at w _ len (sym counted)

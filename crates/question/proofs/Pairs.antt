@@ -7,7 +7,7 @@ use Rattle.question.specs.Runs.{Rule, Climb}
 use Rattle.question.specs.Rises.{staying, stage, changing}
 use Rattle.question.specs.Rules.{rules_of}
 use Rattle.question.specs.Horns.{Bit, base, Horn, by_staying, by_waiting, by_applying, served, horns_for, horns_at}
-use Rattle.question.specs.Bits.{bits_of, bits, Met}
+use Rattle.question.specs.Bits.{bits_of, Met}
 use Rattle.question.specs.Coding.{Ready, Adds}
 use Rattle.question.specs.declared.bits.Bits.{Bits}
 use Rattle.question.specs.declared.clause.Clause.{Clause}

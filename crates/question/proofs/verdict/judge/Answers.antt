@@ -1,6 +1,6 @@
 use Rattle.std.proofs.Common.{refl, ◌∙◌, inl, inr, arith}
 use Rattle.std.proofs.lemmas.List.{length-map}
-use Rattle.question.specs.Rules.{rule_of, rules_of}
+use Rattle.question.specs.Rules.{rule_of}
 use Rattle.question.specs.Search.{climb_of}
 use Rattle.question.proofs.Judges.{rise_climbing, judged_heavy, judged_out, judged_in}
 use Rattle.question.proofs.verdict.judge.Goals as goal

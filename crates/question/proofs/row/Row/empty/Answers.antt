@@ -4,4 +4,6 @@ use Rattle.question.proofs.Laid.{laid_row}
 use Rattle.question.proofs.row.Row.empty.Goals as goal
 
 pub invariant_of-result : goal.invariant_of-result
-invariant_of-result g c = laid_row g.row.N [] (ap (λ k. replicate k 0) (sym (sub-zero g.row.N))) refl (omega arith) tt
+invariant_of-result g c =
+    let row = laid_row g.row.N [] (ap (λ k. replicate k 0) (sym (sub-zero g.row.N))) refl (omega arith) tt in
+    record { short = row.short; wide = row.wide; below = row.below; blank = row.blank }

@@ -14,8 +14,10 @@ pub invariant_of-result : goal.invariant_of-result
 invariant_of-result g c =
     let row = c.args.self.now in
     let word = c.args.word.now in
+    let both =
     laid_row g.row.N _ (behind_all row word _ c.loop-i-test.false c.loop-i.invariant) (length_behind row word)
-    (omega (arith, length_held row)) (All-append (λ s. s < 16) _ word (held_symbols row) c.requires.symbols)
+    (omega (arith, length_held row)) (All-append (λ s. s < 16) _ word (held_symbols row) c.requires.symbols) in
+    record { short = both.short; wide = both.wide; below = both.below; blank = both.blank }
 
 pub returns : goal.returns
 returns g c =

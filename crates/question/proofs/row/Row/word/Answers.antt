@@ -1,4 +1,4 @@
-use Rattle.std.proofs.Common.{refl, arith, length-take}
+use Rattle.std.proofs.Common.{arith, length-take}
 use native.Mathlib.Nat.{sub-zero}
 use Rattle.question.proofs.Laid.{held_symbols}
 use Rattle.question.proofs.row.Row.word.Goals as goal
