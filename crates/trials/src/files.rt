@@ -45,11 +45,11 @@ fn good_heads(rt: HostRuntime) -> Result<(), Fail> {
     assert_eq!(rt; head.order.size(), 0);
     assert!(rt; !head.pool.holds(&[]));
     let out = report(rt.alloc(), &full)?;
-    assert!(rt; out.as_slice() == b"stages 12\n");
+    assert!(rt; out.as_slice() == b"stages 12\n".as_slice());
     let late = [1, 0, 2, 5, 0, 3, 0, 3, 0, 2, 15, 2, 0, 9];
     let out = report(rt.alloc(), &late)?;
     assert!(rt;
-        out.as_slice() == b"stages 5\n",
+        out.as_slice() == b"stages 5\n".as_slice(),
         "a book after the keys is not the head's"
     );
     Ok(())
@@ -95,7 +95,7 @@ fn longest_file(rt: HostRuntime) -> Result<(), Fail> {
     file[2] = 2;
     file[3] = 3;
     let out = report(rt.alloc(), &file[0..FILE_LIMIT])?;
-    assert!(rt; out.as_slice() == b"stages 3\n");
+    assert!(rt; out.as_slice() == b"stages 3\n".as_slice());
     refused(&rt, &file, b"stop 7 at 0\n", Fault::FileTooLong, 0)
 }
 
@@ -103,11 +103,11 @@ fn longest_file(rt: HostRuntime) -> Result<(), Fail> {
 fn lines(rt: HostRuntime) {
     let mut buffer = [7; LINE_ROOM + 1];
     assert_eq!(rt; stages_line(64, &mut buffer), Ok(10));
-    assert!(rt; &buffer[0..11] == b"stages 64\n\x07");
+    assert!(rt; &buffer[0..11] == b"stages 64\n\x07".as_slice());
     assert_eq!(rt; stop_line(17, 16_384, &mut buffer), Ok(17));
-    assert!(rt; &buffer[0..17] == b"stop 17 at 16384\n");
+    assert!(rt; &buffer[0..17] == b"stop 17 at 16384\n".as_slice());
     assert_eq!(rt; no_line(13, 40, &mut buffer), Ok(12));
-    assert!(rt; &buffer[0..17] == b"no 13 at 40\n6384\n");
+    assert!(rt; &buffer[0..17] == b"no 13 at 40\n6384\n".as_slice());
     let mut short = [7; LINE_ROOM - 1];
     assert_eq!(rt; stages_line(1, &mut short), Err(LineShort));
     assert_eq!(rt; stop_line(1, 0, &mut short), Err(LineShort));
