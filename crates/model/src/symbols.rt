@@ -1,6 +1,6 @@
 //! Symbols: the keys 0 to 15 that words are made of.
 ghost use Rattle.std.specs.Prelude.{◌<◌, Decides};
-ghost use Rattle.std.specs.List.{AllByRecursion as All};
+ghost use Rattle.std.specs.List.{AllByRecursion};
 ghost use Rattle.model.specs.Symbols.{Symbols, InSet};
 
 fn is_symbol(byte: u8) -> bool
@@ -33,7 +33,7 @@ impl SymbolSet {
     }
 
     pub fn has_all(self, word: &[u8]) -> bool
-        ensures { Decides result (All (InSet self.0) word.now) }
+        ensures { Decides result (AllByRecursion (InSet self.0) word.now) }
     {
         for symbol in word {
             if !self.has(*symbol) {

@@ -1,7 +1,7 @@
 //! The clauses of a climb.
 ghost use Rattle.std.specs.Prelude.{◌≡◌, ℕ, suc, ◌+◌, ◌<◌, ◌≤◌, List, [], ◌∷◌, length, if◌then◌else◌, ◌==◌, nat_eq};
 ghost use Rattle.std.specs.Option.{unwrap_or};
-ghost use Rattle.std.specs.List.{flat_map, AllByRecursion as All};
+ghost use Rattle.std.specs.List.{flat_map, AllByRecursion};
 ghost use Rattle.question.specs.Lists.{In};
 ghost use Rattle.question.specs.Rises.{staying};
 ghost use Rattle.question.specs.Supply.{supplied_by};
@@ -105,7 +105,7 @@ impl Clauses {
         requires few { length rules.now ≤ 32 }
         requires room { length (clauses_of self.old) + 128 ≤ 2112 }
         requires base { In (base at goal) (bits_of bits.now) }
-        requires met { All (λ r. Met (bits_of bits.now) at goal r.left) (staying (rules_of rules.now) stage) }
+        requires met { AllByRecursion (λ r. Met (bits_of bits.now) at goal r.left) (staying (rules_of rules.now) stage) }
         ensures { Added bits.now 128 (flat_map (by_staying at goal) (staying (rules_of rules.now) stage)) self.old self.new }
     {
         let body = bits.only(at, goal, &[]);
