@@ -7,7 +7,7 @@ use Rattle.session.specs.declared.session.News.{News}
 use Rattle.session.specs.declared.session.Session.{Session}
 use Rattle.session.specs.Calls.{Call, admit, hear, fire, Answer, refused, numbered, stands_at}
 use Rattle.session.specs.Checks.{Check, Passed, RefusedBy}
-use Rattle.session.specs.Ledger.{Ledger, at_stage, HasPlace, result, word_checks, result_checks, ready_checks, checks, Does.admits, Does.hears_known, Does.hears_new, Does.fires_known, Does.fires_new, Serves, Serves.refuses, Serves.accepts}
+use Rattle.session.specs.Ledger.{Ledger, at_stage, HasPlace, made_by, word_checks, result_checks, ready_checks, checks, Does.admits, Does.hears_known, Does.hears_new, Does.fires_known, Does.fires_new, Serves, Serves.refuses, Serves.accepts}
 use Rattle.question.specs.Runs.{Word, Rule, rule}
 use Rattle.session.specs.Sessions.{ledger, answer, news, Notes, Notes.is_known, Notes.is_new, Notes.no_place, Kept, Served}
 use Rattle.session.proofs.Checking.{at_first}
@@ -51,10 +51,10 @@ module _ (size : ℕ) (above : ℕ → ℕ → Type 0) (W : Word → Type 0) (L 
 module _ (size : ℕ) (above : ℕ → ℕ → Type 0) (W : Word → Type 0) (L : Ledger) (k : ℕ) (w : Word) where
   -- The rule r has the number k, and the word that it makes is noted so.
   abbrev Fires : Result News Fault → Ledger → Rule → Type 0
-  Fires noted M r = Passed (result_checks r w) → Notes W L (result r w) noted M →
+  Fires noted M r = Passed (result_checks r w) → Notes W L (made_by r w) noted M →
       MatchResult noted (λ _. Serves size above W L (fire k w) (stands_at r.to) (at_stage r.to M)) (λ f. Serves size above W L (fire k w) (refused f) M)
 
-  passes : Passed (word_checks w) → Passed (ready_checks W L k w) → Passed (result_checks (rule L.rules k) w) → HasPlace W L (result (rule L.rules k) w) → Passed (checks size above W L (fire k w))
+  passes : Passed (word_checks w) → Passed (ready_checks W L k w) → Passed (result_checks (rule L.rules k) w) → HasPlace W L (made_by (rule L.rules k) w) → Passed (checks size above W L (fire k w))
   passes (short, (symbols, _)) (there, (here, (found, _))) (begins, (made_short, _)) place = (short, (symbols, (there, (here, (found, (begins, (made_short, (place, tt))))))))
 
   -- The checks before the word is rewritten pass, and a later one refuses.
@@ -66,7 +66,7 @@ module _ (size : ℕ) (above : ℕ → ℕ → Type 0) (W : Word → Type 0) (L 
   fires_at noted M good_word ready good (is_new n room) = accepts (passes good_word ready good (inr room)) (fires_new n)
   fires_at noted M good_word ready (begins, (short, _)) (no_place n) = refuses (after_ready HeardFull good_word ready (inr (begins, inr (short, inl (n, refl)))))
 
-  pub fires : (noted : Result News Fault) (M : Ledger) (r : Rule) (made : Word) → Passed (word_checks w) → Passed (ready_checks W L k w) → r ≡ rule L.rules k → Passed (result_checks r w) → made ≡ result r w →
+  pub fires : (noted : Result News Fault) (M : Ledger) (r : Rule) (made : Word) → Passed (word_checks w) → Passed (ready_checks W L k w) → r ≡ rule L.rules k → Passed (result_checks r w) → made ≡ made_by r w →
       Notes W L made noted M → MatchResult noted (λ _. Serves size above W L (fire k w) (stands_at r.to) (at_stage r.to M)) (λ f. Serves size above W L (fire k w) (refused f) M)
   fires noted M r made good_word ready is good same notes = subst (Fires noted M) (sym is) (fires_at noted M good_word ready) good (subst (λ v. Notes W L v noted M) same notes)
 

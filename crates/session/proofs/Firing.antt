@@ -4,7 +4,7 @@ use Rattle.question.specs.Runs.{Word, Pool, rule}
 use Rattle.session.specs.Limits.{word_limit}
 use Rattle.session.specs.Checks.{Passed}
 use Rattle.session.specs.Calls.{fire, stands_at}
-use Rattle.session.specs.Ledger.{Ledger, checks, result, at_stage, with_word, InPool, HasPlace, Does.fires_known, Does.fires_new, Serves, Serves.accepts}
+use Rattle.session.specs.Ledger.{Ledger, checks, made_by, at_stage, with_word, InPool, HasPlace, Does.fires_known, Does.fires_new, Serves, Serves.accepts}
 use Rattle.session.specs.Consequences.{Steps, WithinLimits, Stepped, FireIsStep}
 use Rattle.session.proofs.Rewriting.{result_is}
 
@@ -38,7 +38,7 @@ module _ (W : Word → Type 0) where
 module _ (size : ℕ) (above : ℕ → ℕ → Type 0) (W : Word → Type 0) (L : Ledger) (k : ℕ) (w : Word) where
   -- The word that the rule makes.
   abbrev made_of : Word
-  made_of = result (rule L.rules k) w
+  made_of = made_by (rule L.rules k) w
 
   -- What the checks of a fire say.
   passed_steps : Passed (checks size above W L (fire k w)) → Steps W L k w (rule L.rules k).to made_of

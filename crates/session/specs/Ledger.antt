@@ -37,8 +37,8 @@ abbrev pub BeginsWith : Word → Word → Type 0
 BeginsWith left w = (rest : Word) × (w ≡ left ++ rest)
 
 -- The word that the rule r makes of a word w that begins with its left side.
-abbrev pub result : Rule → Word → Word
-result r w = r.right ++ drop (length r.left) w
+abbrev pub made_by : Rule → Word → Word
+made_by r w = r.right ++ drop (length r.left) w
 
 -- No rise from the stage to the goal is too heavy.
 abbrev pub Light : Ledger → ℕ → Type 0
@@ -70,10 +70,10 @@ module _ (W : Word → Type 0) (L : Ledger) where
     hears_known : {w : Word} → InPool w → Does (hear w) known L
     hears_new : {w : Word} → (InPool w → ⊥) → Does (hear w) new (with_word w L)
     -- the stage becomes that of the rule; a resulting word that the pool lacks comes last
-    fires_known : {k : ℕ} {w : Word} → InPool (result (rule L.rules k) w) →
+    fires_known : {k : ℕ} {w : Word} → InPool (made_by (rule L.rules k) w) →
         Does (fire k w) (stands_at (rule L.rules k).to) (at_stage (rule L.rules k).to L)
-    fires_new : {k : ℕ} {w : Word} → (InPool (result (rule L.rules k) w) → ⊥) →
-        Does (fire k w) (stands_at (rule L.rules k).to) (at_stage (rule L.rules k).to (with_word (result (rule L.rules k) w) L))
+    fires_new : {k : ℕ} {w : Word} → (InPool (made_by (rule L.rules k) w) → ⊥) →
+        Does (fire k w) (stands_at (rule L.rules k).to) (at_stage (rule L.rules k).to (with_word (made_by (rule L.rules k) w) L))
     -- an ask changes nothing
     denies : {goal : ℕ} {lent : Lent} → OutOfReach goal → Does (ask goal lent) out_of_reach L
     tells : {goal : ℕ} {lent : Lent} {c : Climb} → InReach goal c → Does (ask goal lent) (in_reach c) L
@@ -97,7 +97,7 @@ side_checks left right =
 abbrev pub result_checks : Rule → Word → List Check
 result_checks r w =
     OtherBeginning unless (BeginsWith r.left w)
-    ∷ ResultTooLong unless (length (result r w) ≤ word_limit)
+    ∷ ResultTooLong unless (length (made_by r w) ≤ word_limit)
     ∷ []
 
 module _ (W : Word → Type 0) (L : Ledger) where
@@ -127,7 +127,7 @@ module _ (size : ℕ) (above : ℕ → ℕ → Type 0) (W : Word → Type 0) (L 
       word_checks w
       ++ ready_checks W L k w
       ++ result_checks (rule L.rules k) w
-      ++ HeardFull unless (HasPlace W L (result (rule L.rules k) w))
+      ++ HeardFull unless (HasPlace W L (made_by (rule L.rules k) w))
       ∷ []
   checks (ask goal lent) =
       NoSuchStage unless (goal < size)

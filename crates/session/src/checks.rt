@@ -3,7 +3,7 @@ ghost use Rattle.std.specs.Prelude.{◌≡◌};
 ghost use Rattle.question.specs.Rows.{held};
 ghost use Rattle.question.specs.Rules.{rule_of};
 ghost use Rattle.session.specs.Checks.{Checked};
-ghost use Rattle.session.specs.Ledger.{word_checks, side_checks, result_checks, result};
+ghost use Rattle.session.specs.Ledger.{word_checks, side_checks, result_checks, made_by};
 
 use crate::fault::Fault;
 use crate::limits::{SIDE_LIMIT, WORD_LIMIT};
@@ -12,7 +12,7 @@ use question::rule::Rule;
 
 /// The word, if it is short and has symbols only.
 pub(crate) fn word(bytes: &[u8]) -> Result<Row<WORD_LIMIT>, Fault>
-    ensures* { λ r. ⌜ Checked (word_checks bytes.now) r (λ row. held row ≡ bytes.now) ⌝ }
+    ensures { Checked (word_checks bytes.now) result (λ row. held row ≡ bytes.now) }
 {
     if bytes.len() > WORD_LIMIT {
         return Err(Fault::TooLong);
@@ -25,7 +25,7 @@ pub(crate) fn word(bytes: &[u8]) -> Result<Row<WORD_LIMIT>, Fault>
 
 /// The rule, if its sides are short and have symbols only.
 pub(crate) fn rule(from: u8, left: &[u8], to: u8, right: &[u8]) -> Result<Rule, Fault>
-    ensures* { λ r. ⌜ Checked (side_checks left.now right.now) r (λ rule. rule_of rule ≡ record { from = from; left = left.now; to = to; right = right.now }) ⌝ }
+    ensures { Checked (side_checks left.now right.now) result (λ rule. rule_of rule ≡ record { from = from; left = left.now; to = to; right = right.now }) }
 {
     if left.len() > SIDE_LIMIT || right.len() > SIDE_LIMIT {
         return Err(Fault::TooLong);
@@ -38,7 +38,7 @@ pub(crate) fn rule(from: u8, left: &[u8], to: u8, right: &[u8]) -> Result<Rule, 
 
 /// The word that `rule` makes of `word`.
 pub(crate) fn rewritten(rule: &Rule, word: &Row<WORD_LIMIT>) -> Result<Row<WORD_LIMIT>, Fault>
-    ensures* { λ r. ⌜ Checked (result_checks (rule_of rule.now) (held word.now)) r (λ row. held row ≡ result (rule_of rule.now) (held word.now)) ⌝ }
+    ensures { Checked (result_checks (rule_of rule.now) (held word.now)) result (λ row. held row ≡ made_by (rule_of rule.now) (held word.now)) }
 {
     let Some(rest) = word.word().strip_prefix(rule.left.word()) else {
         return Err(Fault::OtherBeginning);

@@ -154,31 +154,4 @@ impl<O: Order, P: Pool> Session<O, P> {
         self.stage = rule.to;
         Ok(rule.to)
     }
-    /// Whether some run ends at the goal. If so, the earliest climb of those runs comes to the front of `list`.
-    pub fn ask(&self, goal: u8, cells: &mut [u16], list: &mut [u8]) -> Result<Reach, Fault>
-        ensures { Asked O.Order.stages O.Order.above P.Pool.words self.now goal (record { cells = cells.entry.now; list = list.old }) result (record { cells = cells.exit.now; list = list.new }) }
-    {
-        if !self.is_stage(goal) {
-            return Err(Fault::NoSuchStage);
-        }
-        if list.len() < LIST_USED {
-            return Err(Fault::BufferShort);
-        }
-        let words = Either(&self.pool, &self.heard);
-        let Some(verdict) = judge(&words, self.rules.as_slice(), self.stage, goal, cells) else {
-            return Err(Fault::BufferShort);
-        };
-        match verdict {
-            Verdict::TooHeavy => Err(Fault::TooHeavy),
-            Verdict::Out => {
-                tell(&[], list);
-                Ok(Reach::Out)
-            }
-            Verdict::In(climb) => {
-                let climb = climb.as_slice();
-                tell(climb, list);
-                Ok(Reach::In(climb.len() as u8))
-            }
-        }
-    }
 }

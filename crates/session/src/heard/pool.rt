@@ -1,5 +1,5 @@
 //! The heard words as a pool.
-ghost use Rattle.std.specs.List.{ContainsAt as Has};
+ghost use Rattle.std.specs.List.{ContainsAt};
 ghost use Rattle.model.specs.Symbols.{Symbols};
 ghost use Rattle.session.specs.Sessions.{words_in};
 
@@ -8,7 +8,7 @@ use model::pools::Pool;
 use model::sieve::Sieve;
 
 impl Pool for Heard {
-    ghost words = { λ h w. Has (words_in h) w × Symbols w };
+    ghost words = { λ h w. ContainsAt (words_in h) w × Symbols w };
 
     ghost symbols = { λ _ _ h. h.1 };
 

@@ -13,10 +13,12 @@ invariant_of-self c =
     let h = c.args.self.now in
     let words = map held h.rows.places in
     let written = c.write.ensures in
-    let long : length c.write.new.self.places ≡ heard_places = sym (length-map _ held) ∙ ap length written ∙ length-set words _ _ ∙ length-map _ held ∙ h.wide in (
-      omega (arith, length_words h),
-      (long, (ap (drop (h.count + 1)) written ∙ blank_less words h.count c.from.result heard_places (held c.args.word) [] (omega arith) h.unused, tt)),
-    )
+    let long : length c.write.new.self.places ≡ heard_places = sym (length-map _ held) ∙ ap length written ∙ length-set words _ _ ∙ length-map _ held ∙ h.wide in
+    record {
+      few = omega (arith, length_words h);
+      wide = long;
+      unused = ap (drop (h.count + 1)) written ∙ blank_less words h.count c.from.result heard_places (held c.args.word) [] (omega arith) h.unused;
+    }
 
 pub returns : goal.returns
 returns c =

@@ -15,13 +15,12 @@ listed c = omega (arith, length_rules c.args.self.now, c.args.self.now.wide)
 pub invariant_of-self : goal.invariant_of-self
 invariant_of-self c =
     let r = c.args.self.now in
-    let at = c.from.result in (
-      omega (arith, length_rules r),
-      (
-        length-set r.places _ _ ∙ r.wide,
-        (ap (drop (r.count + 1)) (map-set filled r.places at c.args.rule) ∙ blank_less (map filled r.places) r.count at rule_places _ 0 (omega arith) r.unused, tt),
-      ),
-    )
+    let at = c.from.result in
+    record {
+      few = omega (arith, length_rules r);
+      wide = length-set r.places _ _ ∙ r.wide;
+      unused = ap (drop (r.count + 1)) (map-set filled r.places at c.args.rule) ∙ blank_less (map filled r.places) r.count at rule_places _ 0 (omega arith) r.unused;
+    }
 
 pub returns : goal.returns
 returns c =

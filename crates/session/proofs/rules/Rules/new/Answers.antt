@@ -11,4 +11,4 @@ invariant_of-result c =
     let right = c.empty-2.result in
     let blank : Rule = record { from = 0; left = left; to = 0; right = right } in
     let empty : filled blank ≡ 0 = omega (arith, length_held left, ap length c.empty.ensures, length_held right, ap length c.empty-2.ensures) in
-    (omega arith, (refl, (map-replicate filled 32 blank ∙ ap (replicate 32) empty, tt)))
+    record { few = omega arith; wide = refl; unused = map-replicate filled 32 blank ∙ ap (replicate 32) empty }

@@ -2,7 +2,7 @@ use Rattle.std.proofs.Common.{Ok, Err, ap, ◌∙◌, subst}
 use Rattle.question.specs.Rules.{rule_of}
 use Rattle.session.specs.Calls.{stands_at}
 use Rattle.session.specs.Checks.{Passed, RefusedBy}
-use Rattle.session.specs.Ledger.{result, result_checks}
+use Rattle.session.specs.Ledger.{made_by, result_checks}
 use Rattle.session.proofs.Answering.{refused_here, refused_out, refused_first, not_ready, no_result, fires}
 use Rattle.session.proofs.session.Session.fire.Goals as goal
 
@@ -32,7 +32,7 @@ returns-in_err-note g c =
     let (good, made) = c.in_ok-made.ensures in
     let rule = rule_of c.in_ok-rule.rule in
     let noted = c.in_err-note.ensures in
-    let serves = fires (g.O.Order.stages s.order) (g.O.Order.above s.order) _ _ _ _ (Err c.in_err-note.field-0.0) _ _ _ good_word ready is (subst (λ w. Passed (result_checks rule w)) same good) (made ∙ ap (result rule) same) noted.notes in
+    let serves = fires (g.O.Order.stages s.order) (g.O.Order.above s.order) _ _ _ _ (Err c.in_err-note.field-0.0) _ _ _ good_word ready is (subst (λ w. Passed (result_checks rule w)) same good) (made ∙ ap (made_by rule) same) noted.notes in
     refused_out stands_at _ _ c.from_residual-in_err-note.ensures.1 (record { kept = noted.kept; serves = serves })
 
 pub returns : goal.returns
@@ -45,5 +45,5 @@ returns g c =
     let noted = c.in_ok-note.ensures in
     record {
       kept = record { order = noted.kept.order; pool = noted.kept.pool };
-      serves = fires (g.O.Order.stages s.order) (g.O.Order.above s.order) _ _ _ _ (Ok c.in_ok-note.field-0) _ _ _ good_word ready is (subst (λ w. Passed (result_checks rule w)) same good) (made ∙ ap (result rule) same) noted.notes;
+      serves = fires (g.O.Order.stages s.order) (g.O.Order.above s.order) _ _ _ _ (Ok c.in_ok-note.field-0) _ _ _ good_word ready is (subst (λ w. Passed (result_checks rule w)) same good) (made ∙ ap (made_by rule) same) noted.notes;
     }
