@@ -6,8 +6,8 @@ usage: python3 tools/respell.py [FOLDER]      (once, after port.py, at the top o
 Words are in snake case (above-limit, ruleOf: above_limit, rule_of), facts and types in upper camel case
 (Never-falls: NeverFalls), and a prime is an apostrophe. Names that Rattle makes, in a function's answers and
 invariants, names of a library, and the names of src/ stay. Prints each name that it changes; it stops, with
-nothing written, where two names of one file would fall together. A name may become that of a function of src/,
-which no clause can name.
+nothing written, where two names would fall together: two old ones in one new name within a file, or a new name that
+stands in the file already. A name may become that of a function of src/, which no clause can name.
 """
 
 import os
@@ -86,6 +86,8 @@ def main():
             words |= set(WORD.findall(code))
             lines.append(WORD.sub(lambda m: table.get(m[0], m[0]), code) + rest)
         clash += [f"{path}: {a} would be {table[a]}" for a in words & set(table) if table[a] in words - functions]
+        turned = [table[word] for word in words & set(table)]
+        clash += [f"{path}: two names would be {name}" for name in sorted({it for it in turned if turned.count(it) > 1})]
         new[path] = "\n".join(lines)
     if clash:
         print("\n".join(clash))

@@ -19,7 +19,7 @@ use Rattle.question.proofs.Numbered.{weighed}
 use Rattle.question.proofs.Members.{between_first, between_past}
 
 module _ (i n : ℕ) where
-  -- The bits of `bits-for` from rule k on.
+  -- The bits of `bits_for` from rule k on.
   abbrev pub goals_from : Word → ℕ → List Bit
   goals_from u k = map (λ j. bit i j u) (between k n)
 
