@@ -1,14 +1,7 @@
 -- Records cut off a file.
-use Rattle.std.proofs.Common.{◌≡◌, ℕ, suc, ◌+◌, ◌-◌, ◌*◌, ◌/◌, ◌%◌, ◌<◌, ◌≤◌, List, ◌∷◌, ◌++◌, length, get_or, take, drop, sym, ap, ◌∙◌, subst, ap₂, arith, length-drop}
-use Rattle.std.proofs.lemmas.List.{take_rest, drop-drop, drop_more, drop_all, length-take-le, take-append-drop}
-use Rattle.design.specs.Records.{written, Begins, CutShort, said, Starts}
-
--- `&file[place..]` as the checker reads it
-abbrev pub part : List ℕ → ℕ → List ℕ
-part xs i = take (length xs - i) (drop i xs)
-
-pub three : (xs : List ℕ) → 3 ≤ length xs → xs ≡ get_or xs 0 0 ∷ get_or xs 1 0 ∷ get_or xs 2 0 ∷ drop 3 xs
-three xs h = drop_more xs 0 0 (omega arith) ∙ ap (λ l. get_or xs 0 0 ∷ l) (drop_more xs 1 0 (omega arith) ∙ ap (λ l. get_or xs 1 0 ∷ l) (drop_more xs 2 0 (omega arith)))
+use Rattle.std.proofs.Common.{◌≡◌, ℕ, ◌+◌, ◌-◌, ◌*◌, ◌/◌, ◌%◌, ◌<◌, ◌≤◌, List, [], ◌∷◌, ◌++◌, length, get_or, take, drop, slice_range, sym, refl, ap, ◌∙◌, subst, ap₂, arith}
+use Rattle.std.proofs.lemmas.List.{take_rest, drop-drop, length-take-le, take-append-drop}
+use Rattle.design.specs.Records.{written, Begins}
 
 -- a header and a tail that is long enough
 headed : (t h l : ℕ) (tail : List ℕ) → h < 256 → l < 256 → 256 * h + l ≤ length tail → Begins (t ∷ h ∷ l ∷ tail) t (take (256 * h + l) tail) (drop (256 * h + l) tail)
@@ -21,49 +14,27 @@ headed t h l tail p q fits =
       split = ap₂ (λ x y. t ∷ x ∷ y ∷ tail) high low ∙ ap (λ x. t ∷ length (take (256 * h + l) tail) / 256 ∷ length (take (256 * h + l) tail) % 256 ∷ x) (sym (take-append-drop (256 * h + l) tail));
     }
 
-pub begins : (xs : List ℕ) → 3 ≤ length xs → get_or xs 1 0 < 256 → get_or xs 2 0 < 256 → said xs ≤ length (drop 3 xs) → Begins xs (get_or xs 0 0) (take (said xs) (drop 3 xs)) (drop (said xs) (drop 3 xs))
-begins xs h p q fits =
-    let tail = drop 3 xs in
-    subst (λ l. Begins l (get_or xs 0 0) (take (said xs) tail) (drop (said xs) tail)) (sym (three xs h)) (headed _ _ _ tail p q fits)
-
-pub begins_as : {xs v v' r r' : List ℕ} {t t' : ℕ} → Begins xs t v r → t ≡ t' → v ≡ v' → r ≡ r' → Begins xs t' v' r'
+begins_as : {xs v v' r r' : List ℕ} {t t' : ℕ} → Begins xs t v r → t ≡ t' → v ≡ v' → r ≡ r' → Begins xs t' v' r'
 begins_as b p q s = record { short = subst (λ l. length l < 65536) q b.short; split = b.split ∙ (λ i. written (p i) (q i) ++ s i) }
 
-module _ (file : List ℕ) (place : ℕ) (more : place < length file) where
-  rest_is : part file place ≡ drop place file
-  rest_is = take_rest file place
+-- a record, by its header, the bytes after that and the value that is taken off them
+begins : (xs : List ℕ) {head tail value : List ℕ} {len : ℕ} → head ≡ take 3 xs → tail ≡ drop 3 xs → length tail + 3 ≡ length xs → get_or head 1 0 < 256 → get_or head 2 0 < 256
+    → len ≡ get_or head 1 0 * 256 + get_or head 2 0 → len ≤ length tail → value ≡ slice_range tail 0 len → Begins xs (get_or head 0 0) value (drop len tail)
+begins [] h t long p q n fits v = absurd (omega arith)
+begins (a ∷ []) h t long p q n fits v = absurd (omega arith)
+begins (a ∷ b ∷ []) h t long p q n fits v = absurd (omega arith)
+begins (a ∷ b ∷ c ∷ ys) {head} {tail} {value} {len} h t long p q n fits v =
+    let high : get_or head 1 0 ≡ b = ap (λ l. get_or l 1 0) h in
+    let low : get_or head 2 0 ≡ c = ap (λ l. get_or l 2 0) h in
+    let said : len ≡ 256 * b + c = omega arith in
+    let said' : len - 0 ≡ 256 * b + c = omega arith in
+    begins_as (headed a b c ys (omega arith) (omega arith) (omega (arith, ap length t))) (sym (ap (λ l. get_or l 0 0) h)) (sym (v ∙ ap₂ take said' t)) (sym (ap₂ drop said t))
 
-  pub cut_header : length (part file place) < 3 → CutShort (drop place file)
-  cut_header h = record { some = simp length-drop (omega arith); few = omega (arith, ap length rest_is) }
-
-  module _ (len : ℕ) (is : len ≡ said (part file place)) (head : 3 ≤ length (part file place)) where
-    said_is : len ≡ said (drop place file)
-    said_is = is ∙ ap said rest_is
-
-    tail_is : part (part file place) 3 ≡ drop 3 (drop place file)
-    tail_is = take_rest (part file place) 3 ∙ ap (drop 3) rest_is
-
-    pub cut_value : length (part (part file place) 3) < len → CutShort (drop place file)
-    cut_value h = record { some = simp length-drop (omega arith); few = omega (arith, said_is, ap length tail_is, length-drop 3 (drop place file), ap length rest_is) }
-
-    pub whole : get_or (part file place) 1 0 < 256 → get_or (part file place) 2 0 < 256 → len ≤ length (part (part file place) 3) → (k : ℕ) → k ≡ len → Begins (drop place file) (get_or (part file place) 0 0) (take k (part (part file place) 3)) (drop (place + (3 + len)) file)
-    whole high low fits k same =
-        let xs = drop place file in
-        let n = said_is in
-        let long : said xs ≤ length (drop 3 xs) = omega (arith, said_is, ap length tail_is) in
-        let head' : 3 ≤ length xs = omega (arith, ap length rest_is) in
-        let left : drop (said xs) (drop 3 xs) ≡ drop (place + (3 + len)) file = drop-drop (said xs) 3 xs ∙ drop-drop (3 + said xs) place file ∙ ap (λ m. drop (place + (3 + m)) file) (sym n) in
-        let b = begins xs head' (omega (arith, ap (λ l. get_or l 1 0) rest_is)) (omega (arith, ap (λ l. get_or l 2 0) rest_is)) long in
-        begins_as b (ap (λ l. get_or l 0 0) (sym rest_is)) (ap₂ take (sym (same ∙ n)) (sym tail_is)) left
-
-    pub value_long : (k : ℕ) → k ≡ len → len ≤ length (part (part file place) 3) → length (take k (part (part file place) 3)) ≡ len
-    value_long k same fits = length-take-le k _ (omega arith) ∙ same
-
-pub starts_at : (file : List ℕ) (place tag : ℕ) → place < length file → get_or file place 0 ≡ tag → Starts tag (drop place file)
-starts_at file place tag more is = (drop (place + 1) file, drop_more file place 0 more ∙ ap (λ x. x ∷ drop (place + 1) file) is)
-
-pub not_past : (file : List ℕ) (place tag : ℕ) → length file ≤ place → Starts tag (drop place file) → ⊥
-not_past file place tag past s = let e : 0 ≡ suc (length s.0) = ap length (sym (drop_all place file past) ∙ s.1) in omega arith
-
-pub starts_with : (file : List ℕ) (place tag : ℕ) → place < length file → Starts tag (drop place file) → get_or file place 0 ≡ tag
-starts_with file place tag more s = let e = drop_more file place 0 more in let t = s.1 in cc
+-- the same in a file from a place on, where `&file[place..]` is read as a `take`
+pub taken : (file : List ℕ) (place : ℕ) {head tail value : List ℕ} {len : ℕ} → (head ≡ take 3 (take (length file - place) (drop place file))) × (tail ≡ drop 3 (take (length file - place) (drop place file))) × (length tail + 3 ≡ length (take (length file - place) (drop place file)))
+    → get_or head 1 0 < 256 → get_or head 2 0 < 256 → len ≡ get_or head 1 0 * 256 + get_or head 2 0 → len ≤ length tail → value ≡ slice_range tail 0 len
+    → Begins (drop place file) (get_or head 0 0) value (drop (place + (3 + len)) file)
+taken file place {head} {tail} {value} {len} cut p q n fits v =
+    let rest = take_rest file place in
+    let left : drop len tail ≡ drop (place + (3 + len)) file = ap (drop len) (cut.1 ∙ ap (drop 3) rest) ∙ drop-drop len 3 (drop place file) ∙ drop-drop (3 + len) place file in
+    subst (λ xs. Begins xs (get_or head 0 0) value (drop (place + (3 + len)) file)) rest (begins_as (begins _ cut.0 cut.1 cut.2 p q n fits v) refl refl left)

@@ -1,15 +1,10 @@
 -- From one reading to the next.
-use Rattle.std.proofs.Common.{◌≡◌, ℕ, [], Some, None, Ok, Err, Option, Result, subst, arith}
+use Rattle.std.proofs.Common.{◌≡◌, ℕ, [], Some, None, Ok, Err, Option, Result, ap, ◌∙◌, subst}
+use Rattle.std.specs.Option.{ok_or}
 use Rattle.design.specs.declared.fault.Refusal.{Refusal}
 use Rattle.design.specs.declared.records.Reader.{Reader}
 use Rattle.design.specs.declared.records.Record.{Record}
-use Rattle.design.specs.Records.{Starts}
 use Rattle.design.specs.Reading.{unread, Taken, Next, NextIf}
-
-pub next_if : (tag : ℕ) (before : Reader) (r : Result (Option Record) Refusal) (after : Reader) → Starts tag (unread before) → Next before r after → NextIf tag before r after
-next_if tag before (Ok None) after s h = let e = h.0 in let t = s.1 in let z : ◌≡◌ {A = ℕ} 0 1 = cc in absurd (omega arith)
-next_if tag before (Ok (Some x)) after s h = (let e = h.begins.split in let t = s.1 in cc, h)
-next_if tag before (Err e) after s h = (s, h)
 
 module _ {before after : Reader} {o : Option Record} (h : Next before (Ok o) after) where
   pub took : {x : Record} → o ≡ Some x → Taken before x after
@@ -18,9 +13,14 @@ module _ {before after : Reader} {o : Option Record} (h : Next before (Ok o) aft
   pub ended : o ≡ None → (unread before ≡ []) × (after ≡ before)
   ended e = subst (λ (p : Option Record). Next before (Ok p) after) e h
 
+-- what was asked for by a byte that is the tag
+pub at_tag : {byte tag : ℕ} (before : Reader) (r : Result (Option Record) Refusal) (after : Reader) → byte ≡ tag → NextIf byte before r after → NextIf tag before r after
+at_tag before r after e h = subst (λ t. NextIf t before r after) e h
+
 module _ {tag : ℕ} {before after : Reader} {o : Option Record} (h : NextIf tag before (Ok o) after) where
   pub took_if : {x : Record} → o ≡ Some x → (x.tag ≡ tag) × Taken before x after
   took_if {x} e = subst (λ (p : Option Record). NextIf tag before (Ok p) after) e h
 
-  pub not_there : o ≡ None → (Starts tag (unread before) → ⊥) × (after ≡ before)
-  not_there e = subst (λ (p : Option Record). NextIf tag before (Ok p) after) e h
+-- the error that stands for a value that is missing
+pub missing : {T E : Type 0} {o : Option T} {e x : E} → o ≡ None → ◌≡◌ {A = Result T E} (Err e) (ok_or o x) → e ≡ x
+missing {T} {E} {o} {e} {x} none is = let f : ◌≡◌ {A = Result T E} (Err e) (Err x) = is ∙ ap (λ p. ok_or p x) none in cc

@@ -1,7 +1,7 @@
 -- The head of a file.
 use Rattle.std.specs.Prelude.{◌≡◌, ℕ, ◌+◌, ◌/◌, ◌%◌, ◌<◌, ◌≤◌, ◌⊎◌, List, [], ◌∷◌, ◌++◌, length, Some, None, Ok, Err, Option, Result, ◌≢◌}
 use Rattle.std.specs.Borrow.{Bor}
-use Rattle.std.specs.Option.{unwrap_or}
+use Rattle.std.specs.Option.{unwrap_or, option_map}
 use Rattle.model.specs.declared.keys.KnownKeys.{KnownKeys}
 use Rattle.model.specs.declared.orders.Flags.{Flags}
 use Rattle.model.specs.declared.orders.Ladder.{Ladder}
@@ -67,16 +67,16 @@ pub data NoHead (file : List ℕ) (f : Fault) (place : ℕ) : Type 0 where
   at_keys : length file ≤ 16384 → (ladder flags : ℕ) (b : Option (List ℕ)) (rest : List ℕ) → file ≡ stages_bytes ladder flags ++ (book_bytes b ++ rest)
       → Starts 3 rest → NoKeys rest f → place ≡ 5 + length (book_bytes b) → NoHead file f place
 
--- Without a record of known keys there are none: the end symbol 255 gives no words.
-abbrev pub no_keys_given : Keys
-no_keys_given = (0, 255)
+-- Known keys as the parts have them.
+abbrev pub keys_of : KnownKeys → Keys
+keys_of k = (k.set.0, k.end)
 
--- The head h holds the parts p: the order, the book (empty where there is none), the known keys, and the rest at its place.
+-- The head h holds the parts p: the order, the book (empty where there is none), the known keys where there are any, and the rest at its place.
 pub record Holds (h : Head) (p : Parts) : Type 0 where
   pub ladder : h.order.0.0 ≡ p.ladder
   pub flags : h.order.1.0 ≡ p.flags
   pub book : h.pool.0.0.now ≡ unwrap_or p.book []
-  pub keys : (h.pool.1.set.0, h.pool.1.end) ≡ unwrap_or p.keys no_keys_given
+  pub keys : option_map keys_of h.pool.1 ≡ p.keys
   pub rest : unread h.rest ≡ p.rest
   pub place : h.rest.place ≡ 5 + (length (book_bytes p.book) + length (keys_bytes p.keys))
 
@@ -86,26 +86,24 @@ HeadRead file (Ok h) = (p : Parts) × Headed file p × Holds h p
 HeadRead file (Err e) = NoHead file e.fault e.place
 
 -- Its parts one by one. First the tag that a file may begin with, and the stages.
-abbrev pub FirstJudged : ℕ → Result (Unit {0}) Fault → Type 0
-FirstJudged tag (Ok _) = tag ≡ 1
-FirstJudged tag (Err f) = ((1 < tag) × (tag ≤ 7) × (f ≡ Misplaced)) ⊎ (((tag < 1) ⊎ (7 < tag)) × (f ≡ UnknownTag))
+abbrev pub FirstJudged : ℕ → ℕ → Result (Unit {0}) Refusal → Type 0
+FirstJudged tag place (Ok _) = tag ≡ 1
+FirstJudged tag place (Err e) = (((1 < tag) × (tag ≤ 7) × (e.fault ≡ Misplaced)) ⊎ (((tag < 1) ⊎ (7 < tag)) × (e.fault ≡ UnknownTag))) × (e.place ≡ place)
 
 abbrev pub StagesRead : Reader → Result (Pair Ladder Flags) Refusal → Reader → Type 0
 StagesRead before (Ok s) after = (unread before ≡ stages_bytes s.0.0 s.1.0 ++ unread after) × (after.place ≡ before.place + 5)
 StagesRead before (Err e) after = NoStages (unread before) e.fault × (before.place ≡ 0 → e.place ≡ 0)
 
--- A part that may be there, written by a record with the tag; where it is not, its value is `none`.
-pub record Part {A : Type 0} (bytes : Option A → List ℕ) (tag : ℕ) (none : A) (before : Reader) (value : A) (after : Reader) : Type 0 where
-  pub part : Option A
-  pub same : value ≡ unwrap_or part none
+-- A part that may be there, written by a record with the tag.
+pub record Part {A : Type 0} (bytes : Option A → List ℕ) (tag : ℕ) (before : Reader) (part : Option A) (after : Reader) : Type 0 where
   pub shape : unread before ≡ bytes part ++ unread after
   pub absent : part ≡ None → Starts tag (unread before) → ⊥
   pub place : after.place ≡ before.place + length (bytes part)
 
 abbrev pub BookRead : Reader → Result (Bor (List ℕ)) Refusal → Reader → Type 0
-BookRead before (Ok b) after = Part book_bytes 2 [] before b.now after
+BookRead before (Ok b) after = (part : Option (List ℕ)) × (b.now ≡ unwrap_or part []) × Part book_bytes 2 before part after
 BookRead before (Err e) after = Starts 2 (unread before) × CutShort (unread before) × (e.fault ≡ Cut) × (e.place ≡ before.place)
 
-abbrev pub KeysRead : Reader → Result KnownKeys Refusal → Reader → Type 0
-KeysRead before (Ok k) after = Part keys_bytes 3 no_keys_given before (k.set.0, k.end) after
+abbrev pub KeysRead : Reader → Result (Option KnownKeys) Refusal → Reader → Type 0
+KeysRead before (Ok k) after = Part keys_bytes 3 before (option_map keys_of k) after
 KeysRead before (Err e) after = Starts 3 (unread before) × NoKeys (unread before) e.fault × (e.place ≡ before.place)

@@ -1,4 +1,5 @@
 pub mod Faults
+pub mod Tags
 pub mod Records
 pub mod Reading
 pub mod Heads

@@ -1,6 +1,5 @@
 -- The lines of a report, as bytes.
-use Rattle.std.specs.Prelude.{◌≡◌, ℕ, ◌<◌, ◌≤◌, List, [], ◌∷◌, ◌++◌, length, take, drop, Ok, Err, codes, decimal, Result}
-use Rattle.design.specs.declared.lines.Line.{Line}
+use Rattle.std.specs.Prelude.{◌≡◌, ℕ, ◌<◌, ◌≤◌, List, [], ◌∷◌, ◌++◌, length, drop, Ok, Err, codes, decimal, Result}
 use Rattle.design.specs.declared.lines.LineShort.{LineShort}
 
 abbrev pub newline : List ℕ
@@ -31,7 +30,3 @@ pub record Put (line before : List ℕ) (n : ℕ) (after : List ℕ) : Type 0 wh
 abbrev pub LineOut : List ℕ → List ℕ → Result ℕ LineShort → List ℕ → Type 0
 LineOut line before (Ok n) after = Put line before n after
 LineOut line before (Err e) after = (length before < 64) × (after ≡ before)
-
--- What a line in the making has so far.
-abbrev pub content : Line → List ℕ
-content l = take l.len l.bytes

@@ -24,11 +24,20 @@ pub struct Refusal {
 }
 
 impl Fault {
-    /// The number by which a report names the fault.
-    pub fn number(self) -> u8
-        ensures { result ≡ number self }
+    /// The refusal for this fault of the record that starts at `place`.
+    pub(crate) fn at(self, place: usize) -> Refusal
+        ensures { result ≡ record { fault = self; place = place } }
     {
-        match self {
+        Refusal { fault: self, place }
+    }
+}
+
+/// The number by which a report names the fault.
+impl From<Fault> for u8 {
+    ghost from_gives = { λ fault n. n ≡ number fault };
+
+    fn from(fault: Fault) -> u8 {
+        match fault {
             Fault::Cut => 1,
             Fault::UnknownTag => 2,
             Fault::WrongLength => 3,

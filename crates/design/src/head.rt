@@ -4,8 +4,8 @@ ghost use Rattle.design.specs.Heads.{FirstJudged, StagesRead, BookRead, KeysRead
 ghost use Rattle.design.specs.HeadLaws.{OneAnswer};
 
 use crate::fault::{Fault, Refusal};
-use crate::records::{Reader, Record, big_endian};
-use crate::tags::{BOOK, HEAR, KEYS, STAGES};
+use crate::records::{Reader, Record};
+use crate::tags::Tag;
 use model::book::Book;
 use model::keys::KnownKeys;
 use model::orders::{Flags, Ladder, Pair};
@@ -15,34 +15,22 @@ use model::symbols::SymbolSet;
 /// A file has at most this many bytes.
 pub const FILE_LIMIT: usize = 16_384;
 
-/// Stands for a head without known keys: an end symbol above 15 gives no words.
-const NO_KEYS: KnownKeys = KnownKeys {
-    set: SymbolSet(0),
-    end: 255,
-};
-
 /// What a head sets up, and the file from there on.
 #[derive(Clone, Copy)]
 pub struct Head<'a> {
     pub order: Pair<Ladder, Flags>,
-    pub pool: Either<Book<'a>, KnownKeys>,
+    pub pool: Either<Book<'a>, Option<KnownKeys>>,
     pub rest: Reader<'a>,
 }
 
-fn is_too_long(file: &[u8]) -> bool
-    ensures { Decides result (16384 < length file.now) }
-{
-    file.len() > FILE_LIMIT
-}
-
 /// Whether a file may begin with a record of this tag: only with stages.
-fn judge_first(tag: u8) -> Result<(), Fault>
-    ensures { FirstJudged tag result }
+fn judge_first(tag: u8, place: usize) -> Result<(), Refusal>
+    ensures { FirstJudged tag place result }
 {
-    match tag {
-        STAGES => Ok(()),
-        BOOK..=HEAR => Err(Fault::Misplaced),
-        _ => Err(Fault::UnknownTag),
+    match Tag::try_from(tag) {
+        Ok(Tag::Stages) => Ok(()),
+        Ok(_) => Err(Fault::Misplaced.at(place)),
+        Err(_) => Err(Fault::UnknownTag.at(place)),
     }
 }
 
@@ -50,20 +38,10 @@ fn judge_first(tag: u8) -> Result<(), Fault>
 fn stages(reader: &mut Reader<'_>) -> Result<Pair<Ladder, Flags>, Refusal>
     ensures { StagesRead reader.old result reader.new }
 {
-    let Some(Record { tag, value, place }) = reader.next()? else {
-        return Err(Refusal {
-            fault: Fault::Cut,
-            place: 0,
-        });
-    };
-    if let Err(fault) = judge_first(tag) {
-        return Err(Refusal { fault, place });
-    }
+    let Record { tag, value, place } = reader.next()?.ok_or(Fault::Cut.at(0))?;
+    judge_first(tag, place)?;
     let [ladder, flags] = value else {
-        return Err(Refusal {
-            fault: Fault::WrongLength,
-            place,
-        });
+        return Err(Fault::WrongLength.at(place));
     };
     Ok(Pair(Ladder(*ladder), Flags(*flags)))
 }
@@ -72,29 +50,26 @@ fn stages(reader: &mut Reader<'_>) -> Result<Pair<Ladder, Flags>, Refusal>
 fn book<'a>(reader: &mut Reader<'a>) -> Result<&'a [u8], Refusal>
     ensures { BookRead reader.old result reader.new }
 {
-    let Some(Record { value, .. }) = reader.next_if(BOOK)? else {
-        return Ok(&[]);
-    };
-    Ok(value)
+    match reader.next_if(u8::from(Tag::Book))? {
+        Some(record) => Ok(record.value),
+        None => Ok(&[]),
+    }
 }
 
 /// The known keys where they come next, or else none.
-fn known_keys(reader: &mut Reader<'_>) -> Result<KnownKeys, Refusal>
+fn known_keys(reader: &mut Reader<'_>) -> Result<Option<KnownKeys>, Refusal>
     ensures { KeysRead reader.old result reader.new }
 {
-    let Some(Record { value, place, .. }) = reader.next_if(KEYS)? else {
-        return Ok(NO_KEYS);
+    let Some(Record { value, place, .. }) = reader.next_if(u8::from(Tag::Keys))? else {
+        return Ok(None);
     };
     let [high, low, end] = value else {
-        return Err(Refusal {
-            fault: Fault::WrongLength,
-            place,
-        });
+        return Err(Fault::WrongLength.at(place));
     };
-    Ok(KnownKeys {
-        set: SymbolSet(big_endian(*high, *low)),
+    Ok(Some(KnownKeys {
+        set: SymbolSet(u16::from_be_bytes([*high, *low])),
         end: *end,
-    })
+    }))
 }
 
 impl<'a> Head<'a> {
@@ -102,11 +77,8 @@ impl<'a> Head<'a> {
     pub fn read(file: &'a [u8]) -> Result<Head<'a>, Refusal>
         ensures { HeadRead file.now result × OneAnswer file.now result }
     {
-        if is_too_long(file) {
-            return Err(Refusal {
-                fault: Fault::FileTooLong,
-                place: 0,
-            });
+        if file.len() > FILE_LIMIT {
+            return Err(Fault::FileTooLong.at(0));
         }
         let mut reader = Reader::new(file);
         let order = stages(&mut reader)?;

@@ -1,12 +1,12 @@
 //! Records: a tag, a length and a value, one after another.
-ghost use Rattle.std.specs.Prelude.{◌≡◌, ◌+◌, ◌*◌, Decides};
+ghost use Rattle.std.specs.Prelude.{◌≡◌, Decides};
 ghost use Rattle.design.specs.Reading.{unread, Next, NextIf};
 ghost use Rattle.design.specs.Records.{Starts};
 
 use crate::fault::{Fault, Refusal};
 
 /// A record: its tag, its value, which is a part of the file, and the byte at which it starts.
-#[derive(Clone, Copy)]
+#[derive(Clone, Copy, PartialEq, Eq, Debug)]
 pub struct Record<'a> {
     pub tag: u8,
     pub value: &'a [u8],
@@ -14,17 +14,10 @@ pub struct Record<'a> {
 }
 
 /// A file, and how far it is read.
-#[derive(Clone, Copy)]
+#[derive(Clone, Copy, PartialEq, Eq, Debug)]
 pub struct Reader<'a> {
     file: &'a [u8],
     place: usize,
-}
-
-/// The number that two bytes stand for, the high one first.
-pub(crate) fn big_endian(high: u8, low: u8) -> u16
-    ensures { result ≡ 256 * high + low }
-{
-    256 * u16::from(high) + u16::from(low)
 }
 
 impl<'a> Reader<'a> {
@@ -43,21 +36,14 @@ impl<'a> Reader<'a> {
         if place >= self.file.len() {
             return Ok(None);
         }
-        let cut = Refusal {
-            fault: Fault::Cut,
-            place,
-        };
-        let [tag, high, low, tail @ ..] = &self.file[place..] else {
-            return Err(cut);
-        };
-        let len = usize::from(big_endian(*high, *low));
-        if len > tail.len() {
-            return Err(cut);
-        }
+        let cut = Fault::Cut.at(place);
+        let ([tag, high, low], tail) = self.file[place..].split_first_chunk::<3>().ok_or(cut)?;
+        let len = usize::from(u16::from_be_bytes([*high, *low]));
+        let value = tail.get(..len).ok_or(cut)?;
         self.place += 3 + len;
         Ok(Some(Record {
             tag: *tag,
-            value: &tail[0..len],
+            value,
             place,
         }))
     }
@@ -66,7 +52,7 @@ impl<'a> Reader<'a> {
     fn starts_with(&self, tag: u8) -> bool
         ensures { Decides result (Starts tag (unread self.now)) }
     {
-        self.place < self.file.len() && self.file[self.place] == tag
+        self.file.get(self.place) == Some(&tag)
     }
 
     /// The next record where the next byte is `tag`; else `None`, and the reader stays.

@@ -1,47 +1,30 @@
 //! The whole report on a file.
-ghost use Rattle.std.specs.Prelude.{◌≡◌, List, ◌++◌, IfOk, OnOk};
-ghost use Rattle.design.specs.Faults.{number};
-ghost use Rattle.design.specs.Lines.{stages_line, stop_line};
+ghost use Rattle.std.specs.Prelude.{ℕ, List, IfOk};
+ghost use Rattle.design.specs.Lines.{LineOut};
 ghost use Rattle.design.specs.Reports.{Reported, OneReport};
 
-use crate::fault::Refusal;
 use crate::head::Head;
-use crate::lines::{LINE_ROOM, stages_line, stop_line};
+use crate::lines::{LINE_ROOM, LineShort, stages_line, stop_line};
 use model::orders::Order;
 use std::alloc::{AllocError, Global};
 
-fn add_stages(out: &mut Vec<u8>, size: u16) -> Result<(), AllocError>
-    ensures { OnOk result (out.new.items ≡ out.old.items ++ stages_line size) }
+/// Writes the line of a file's head, or of the refusal of it, to the front of `buffer`; answers its length.
+fn head_line(file: &[u8], buffer: &mut [u8]) -> Result<usize, LineShort>
+    ensures { (line : List ℕ) × Reported file.now line × LineOut line buffer.old result buffer.new }
 {
-    let mut line = [0; LINE_ROOM];
-    let Ok(len) = stages_line(size, &mut line) else {
-        unreachable()
-    };
-    out.extend_from_slice(&line[0..len])
-}
-
-fn add_stop(out: &mut Vec<u8>, refusal: Refusal) -> Result<(), AllocError>
-    ensures { OnOk result (out.new.items ≡ out.old.items ++ stop_line (number refusal.fault) refusal.place) }
-{
-    let mut line = [0; LINE_ROOM];
-    let Ok(len) = stop_line(refusal.fault.number(), refusal.place, &mut line) else {
-        unreachable()
-    };
-    out.extend_from_slice(&line[0..len])
+    match Head::read(file) {
+        Ok(head) => stages_line(head.order.size(), buffer),
+        Err(refusal) => stop_line(u8::from(refusal.fault), refusal.place, buffer),
+    }
 }
 
 /// The report on a file: the line of its head, or of the refusal of it.
 pub fn report(heap: Global, file: &[u8]) -> Result<Vec<u8>, AllocError>
     ensures { IfOk result (λ out. Reported file.now out.items) × OneReport file.now }
 {
-    let mut out = Vec::new(heap);
-    let head = match Head::read(file) {
-        Ok(head) => head,
-        Err(refusal) => {
-            add_stop(&mut out, refusal)?;
-            return Ok(out);
-        }
+    let mut line = [0; LINE_ROOM];
+    let Ok(len) = head_line(file, &mut line) else {
+        unreachable()
     };
-    add_stages(&mut out, head.order.size())?;
-    Ok(out)
+    Vec::from_slice(heap, &line[..len])
 }

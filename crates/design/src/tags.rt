@@ -1,22 +1,53 @@
 //! The tag of each kind of record.
+ghost use Rattle.std.specs.Prelude.{◌≡◌};
+ghost use Rattle.design.specs.Tags.{byte_of, Decodes};
 
-/// A ladder's size and a number of flags: the order of the stages.
-pub const STAGES: u8 = 1;
+/// A kind of record, numbered by its tag.
+#[derive(Clone, Copy, PartialEq, Eq, Debug)]
+pub enum Tag {
+    /// A ladder's size and a number of flags: the order of the stages.
+    Stages = 1,
+    /// The words of a book.
+    Book = 2,
+    /// A set of known keys and an end symbol.
+    Keys = 3,
+    /// A rule to admit.
+    Rule = 4,
+    /// A rule number and a word to fire it on.
+    Fire = 5,
+    /// A goal to ask for.
+    Ask = 6,
+    /// A word to hear.
+    Hear = 7,
+}
 
-/// The words of a book.
-pub const BOOK: u8 = 2;
+/// A byte that is no kind's tag.
+#[derive(Clone, Copy, PartialEq, Eq, Debug)]
+pub struct UnknownTag(pub u8);
 
-/// A set of known keys and an end symbol.
-pub const KEYS: u8 = 3;
+impl From<Tag> for u8 {
+    ghost from_gives = { λ tag byte. byte ≡ byte_of tag };
 
-/// A rule to admit.
-pub const RULE: u8 = 4;
+    fn from(tag: Tag) -> u8 {
+        tag as u8
+    }
+}
 
-/// A rule number and a word to fire it on.
-pub const FIRE: u8 = 5;
+impl TryFrom<u8> for Tag {
+    type Error = UnknownTag;
 
-/// A goal to ask for.
-pub const ASK: u8 = 6;
+    ghost try_from_gives = { Decodes };
 
-/// A word to hear.
-pub const HEAR: u8 = 7;
+    fn try_from(byte: u8) -> Result<Tag, UnknownTag> {
+        match byte {
+            1 => Ok(Tag::Stages),
+            2 => Ok(Tag::Book),
+            3 => Ok(Tag::Keys),
+            4 => Ok(Tag::Rule),
+            5 => Ok(Tag::Fire),
+            6 => Ok(Tag::Ask),
+            7 => Ok(Tag::Hear),
+            _ => Err(UnknownTag(byte)),
+        }
+    }
+}

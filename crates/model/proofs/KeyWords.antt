@@ -1,30 +1,15 @@
 -- Words of known keys, taken apart and read through a sieve.
-use Rattle.std.proofs.Common.{◌≡◌, ℕ, ◌+◌, ◌-◌, ◌*◌, ◌<◌, Bool, ◌↔◌, List, [], ◌∷◌, ◌++◌, length, get_or, take, Decides, sym, refl, ap, ◌∙◌, subst, arith, length-append, take_all}
+use Rattle.std.proofs.Common.{◌≡◌, ℕ, ◌+◌, ◌*◌, ◌<◌, ◌↔◌, List, [], ◌∷◌, ◌++◌, get_or, sym, refl, ap, ◌∙◌, subst, arith}
 use Rattle.std.proofs.ByRecursion.{All-push}
-use Rattle.std.proofs.lemmas.List.{take_more, same_from_push}
+use Rattle.std.specs.List.{fold}
+use Rattle.std.specs.Prelude.{reverse}
+use Rattle.std.proofs.lemmas.List.Sums.{fold-append}
+use Rattle.std.proofs.lemmas.List.{reverse-append}
 use Rattle.std.proofs.lemmas.Bool.Decides.{nat_tests}
 use Rattle.std.specs.List.{AllByRecursion as All}
 use Rattle.model.specs.Keys.{KeyWord, Lead}
 use Rattle.model.specs.Sieves.{mark, next, run, Wanted}
 use Rattle.model.specs.Symbols.{InSet}
-
-pub split_last : (w : List ℕ) → 0 < length w → w ≡ take (length w - 1) w ++ get_or w (length w - 1) 0 ∷ []
-split_last w some =
-    let up : length w - 1 + 1 ≡ length w = omega arith in
-    sym (take_all (length w - 1 + 1) w (omega arith)) ∙ take_more w (length w - 1) 0 (omega arith)
-
-pub never_empty : (set end : ℕ) (w : List ℕ) → length w ≡ 0 → KeyWord set end w → ⊥
-never_empty set end w e h = omega (arith, ap length h.1.2 ∙ length-append h.1.0 (end ∷ []))
-
-module _ (set end : ℕ) (w keys : List ℕ) (last : ℕ) (split : w ≡ keys ++ last ∷ []) where
-  pub same_end : KeyWord set end w → last ≡ end
-  same_end h = (same_from_push keys h.1.0 last end (sym split ∙ h.1.2)).1
-
-  pub keys_decide : last ≡ end → end < 16 → (r : Bool) → Decides r (All (InSet set) keys) → Decides r (KeyWord set end w)
-  keys_decide is small r d = (
-    λ yes. (small, (keys, d.0 yes, split ∙ ap (λ e. keys ++ e ∷ []) is)),
-    λ h. d.1 (subst (All (InSet set)) (sym (same_from_push keys h.1.0 last end (sym split ∙ h.1.2)).0) h.1.1),
-  )
 
 -- The innermost symbol is read first.
 pub run_push : (table : List ℕ) (m : ℕ) (keys : List ℕ) (s : ℕ) → run table m (keys ++ s ∷ []) ≡ run table (next table m s) keys
@@ -55,3 +40,8 @@ module _ (set : ℕ) (table wanted : List ℕ) where
     λ l. (l.0 ++ end ∷ [], (small, (l.0, l.1, refl)), subst (Wanted wanted) (sym (run_push table first l.0 end)) l.2),
     λ h. (h.1.1.0, h.1.1.1, subst (Wanted wanted) (ap (run table first) h.1.1.2 ∙ run_push table first h.1.1.0 end) h.2),
   )
+
+-- Reading a word is a fold over its symbols, the last one first.
+pub run_is_fold : (table : List ℕ) (m : ℕ) (w : List ℕ) → fold (next table) m (reverse w) ≡ run table m w
+run_is_fold table m [] = refl
+run_is_fold table m (s ∷ w) = ap (fold (next table) m) (reverse-append (s ∷ []) w) ∙ fold-append (next table) m (reverse w) (s ∷ []) ∙ ap (λ x. next table x s) (run_is_fold table m w)

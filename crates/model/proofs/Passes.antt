@@ -1,9 +1,16 @@
 -- A pass over the marks, which takes some of them into a list.
-use Rattle.std.proofs.Common.{◌≡◌, ℕ, zero, suc, ◌+◌, ◌<◌, Bool, true, false, cond, eqb, ◌≢◌, ◌↔◌, List, [], ◌∷◌, length, get_or, set, Decides, sym, refl, ap, ◌∙◌, subst, ⊎_elim, arith}
+use Rattle.std.proofs.Common.{◌≡◌, ℕ, zero, suc, ◌+◌, ◌<◌, Bool, true, false, cond, eqb, ◌≢◌, List, [], ◌∷◌, length, get_or, set, Decides, sym, refl, ap, ◌∙◌, subst, ⊎_elim, arith}
 use mir.Val.{bool_byte}
 use Rattle.std.proofs.lemmas.List.{get_or-set_same, get_or-set_other}
 use Rattle.std.proofs.lemmas.Bool.{cases_eq, true≢false, false≢true, eq-eqb, cond-true}
 use Rattle.model.specs.Closing.{Sound, missing}
+use Rattle.std.specs.Fn.{Mut, Called}
+use Rattle.std.specs.Bool.{MatchBool}
+use Rattle.std.specs.Iterator.{ChecksAny}
+use Rattle.std.proofs.lemmas.List.Folds.{none_from_all_within}
+use Rattle.std.specs.List.{HoldsAt}
+use Rattle.std.specs.Prelude.{Option}
+use Rattle.std.proofs.lemmas.Iterator.{YieldsList, cases_from_any}
 use Rattle.model.specs.Sieves.{Wanted}
 
 -- One mark more is in the list.
@@ -64,12 +71,27 @@ module _ (R : ℕ → Type 0) (N : ℕ → ℕ → ℕ) (K : ℕ → Type 0) whe
             [ true ↦ λ _ f. omega (arith, f refl) | false ↦ λ e _. omega (arith, ap missing (e refl)) ] p.same p.fewer;
       }
 
--- A test's answer as a byte of such a list.
-pub listed_answer : {P : Type 0} (b : Bool) (v : ℕ) → v ≡ bool_byte b → Decides b P → (0 < v ↔ P)
-listed_answer true v e d = (λ _. d.0 refl, λ _. omega arith)
-listed_answer false v e d = (λ h. absurd (omega arith), λ p. absurd (false≢true (d.1 p)))
+-- One place more of a list that is written from its front.
+pub written_more : (Q : ℕ → ℕ → Type 0) (list : List ℕ) (m v : ℕ) → m < length list → ((k : ℕ) → k < m → Q k (get_or list k 0)) → Q m v → (k : ℕ) → k < m + 1 → Q k (get_or (set list m v) k 0)
+written_more Q list m v within below here k lt =
+    at_written list m v within (Q k) k (λ e. subst (λ j. Q j v) (sym e) here) (λ ne. below k (omega arith))
 
--- One place more of it.
-pub listed_more : (P : ℕ → Type 0) (list : List ℕ) (m v : ℕ) → m < length list → ((k : ℕ) → k < m → Wanted list k ↔ P k) → (0 < v ↔ P m) → (k : ℕ) → k < m + 1 → Wanted (set list m v) k ↔ P k
-listed_more P list m v within below here k lt =
-    at_written list m v within (λ b. 0 < b ↔ P k) k (λ e. subst (λ j. 0 < v ↔ P j) (sym e) here) (λ ne. below k (omega arith))
+-- A test's answer as a byte of such a list.
+pub byte_tells : (b : Bool) (v : ℕ) → v ≡ bool_byte b → Decides b (0 < v)
+byte_tells true v e = (λ _. omega arith, λ _. refl)
+byte_tells false v e = (λ t. absurd (false≢true t), λ h. absurd (omega arith))
+
+decides_from_cases : {P Q : Type 0} (r : Bool) → MatchBool r P Q → (P → Q → ⊥) → Decides r P
+decides_from_cases true p apart = (λ _. p, λ _. refl)
+decides_from_cases false q apart = (λ t. absurd (false≢true t), λ p. absurd (apart p q))
+
+-- `any` where the test decides P, over a chain that gives the list.
+pub any_decides : {S A B F : Type 0} {steps : S → Option A → S → Type 0} {v : A → B} {g : Mut F (A × Unit {0}) Bool} {s : S} {all : List B} (P : B → Type 0) (u : S) (f : F) (r : Bool)
+    → ChecksAny steps g s f r u → YieldsList steps v s all → ((x : A) (b : Bool) (q : F) → Called g f (x, tt) b q → (q ≡ f) × Decides b (P (v x)))
+    → Decides r ((k : ℕ) × (k < length all) × HoldsAt P all k)
+any_decides {all = all} P u f r ran road acts =
+    decides_from_cases r
+    (cases_from_any u f r P (λ x. P x → ⊥) ran road
+    (λ x q k. (acts x true q k).1.0 refl)
+    (λ x q k. ((acts x false q k).0, λ p. absurd (false≢true ((acts x false q k).1.1 p)))))
+    (λ some none. none_from_all_within P all none some)

@@ -6,6 +6,10 @@ use Rattle.model.specs.Symbols.{Symbols}
 pub record Opens (bytes v rest : List ℕ) : Type 0 where
   pub split : bytes ≡ length v ∷ (v ++ rest)
 
+-- No entry is left: the bytes are none, or their end cuts the first.
+abbrev pub Spent : List ℕ → Type 0
+Spent bytes = (v rest : List ℕ) → Opens bytes v rest → ⊥
+
 -- w is an entry of the bytes: their first, or one of those after it.
 pub data Entry (w : List ℕ) : List ℕ → Type 0 where
   first : {bytes rest : List ℕ} → Opens bytes w rest → Entry w bytes

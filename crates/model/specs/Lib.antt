@@ -6,3 +6,4 @@ pub mod Keys
 pub mod Closing
 pub mod Masks
 pub mod Places
+pub mod Pools

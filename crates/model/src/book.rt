@@ -1,6 +1,7 @@
 //! Books: words written out in bytes.
-ghost use Rattle.std.specs.Prelude.{ℕ, List, Decides, MatchOption};
-ghost use Rattle.model.specs.Books.{Opens, BookWord};
+ghost use Rattle.std.specs.Prelude.{◌≡◌, ℕ, length, Decides, MatchOption};
+ghost use Rattle.std.specs.Iterator.{at_most};
+ghost use Rattle.model.specs.Books.{Opens, Spent, BookWord};
 ghost use Rattle.model.specs.Sieves.{Caught};
 ghost use Rattle.model.specs.Symbols.{Symbols};
 
@@ -11,22 +12,8 @@ use crate::symbols::all_symbols;
 /// Entries one after another, each a length byte and that many symbols.
 ///
 /// An entry that the end cuts is no entry, and one with a byte above 15 is no word.
-#[derive(Clone, Copy)]
+#[derive(Clone, Copy, PartialEq, Eq, Debug)]
 pub struct Book<'a>(pub &'a [u8]);
-
-/// The first entry and the bytes after it, where there is a whole one.
-fn first_entry(bytes: &[u8]) -> Option<(&[u8], &[u8])>
-    ensures { MatchOption result ((v rest : List ℕ) → Opens bytes.now v rest → ⊥) (λ e. Opens bytes.now e.0.now e.1.now) }
-{
-    let [len, tail @ ..] = bytes else {
-        return None;
-    };
-    let len = usize::from(*len);
-    if len > tail.len() {
-        return None;
-    }
-    Some(tail.split_at(len))
-}
 
 /// Whether `entry` is a word that ends at a wanted mark.
 fn is_caught(sieve: Sieve<'_>, entry: &[u8]) -> bool
@@ -35,30 +22,44 @@ fn is_caught(sieve: Sieve<'_>, entry: &[u8]) -> bool
     all_symbols(entry) && sieve.catches(entry)
 }
 
+/// The entries that are left of a book.
+#[derive(Clone, Copy, Drop)]
+struct Entries<'a>(&'a [u8]);
+
+impl<'a> Iterator for Entries<'a> {
+    type Item = &'a [u8];
+
+    ghost next_gives = { λ s r t. MatchOption r (Spent s.0.now) (λ e. Opens s.0.now e.now t.0.now) };
+
+    ghost remaining = { λ s. at_most (length s.0.now) };
+
+    fn next(&mut self) -> Option<&'a [u8]> {
+        let (len, tail) = self.0.split_first()?;
+        let (entry, rest) = tail.split_at_checked(usize::from(*len))?;
+        self.0 = rest;
+        Some(entry)
+    }
+}
+
+impl<'a> Book<'a> {
+    /// Its entries, the first one first.
+    fn entries(&self) -> Entries<'a>
+        ensures { result.0.now ≡ self.now.0.now }
+    {
+        Entries(self.0)
+    }
+}
+
 impl<'a> Pool for Book<'a> {
     ghost words = { λ b. BookWord b.0.now };
 
     ghost symbols = { λ _ _ h. h.1 };
 
     fn holds(&self, word: &[u8]) -> bool {
-        let mut rest = self.0;
-        while let Some((entry, later)) = first_entry(rest) {
-            if entry == word {
-                return all_symbols(word);
-            }
-            rest = later;
-        }
-        false
+        all_symbols(word) && self.entries().any(|entry| entry == word)
     }
 
     fn meets(&self, sieve: Sieve<'_>) -> bool {
-        let mut rest = self.0;
-        while let Some((entry, later)) = first_entry(rest) {
-            if is_caught(sieve, entry) {
-                return true;
-            }
-            rest = later;
-        }
-        false
+        self.entries().any(|entry| is_caught(sieve, entry))
     }
 }

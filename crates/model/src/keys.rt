@@ -32,10 +32,7 @@ impl Pool for KnownKeys {
         let [keys @ .., last] = word else {
             return false;
         };
-        if !self.end_with(*last) {
-            return false;
-        }
-        self.set.has_all(keys)
+        self.end_with(*last) && self.set.has_all(keys)
     }
 
     fn meets(&self, sieve: Sieve<'_>) -> bool {

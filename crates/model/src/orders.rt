@@ -21,6 +21,13 @@ pub trait Order {
     fn size(&self) -> u16
         ensures { result ≡ stages self.now };
 
+    /// Whether it has the stage.
+    fn has_stage(&self, stage: u8) -> bool
+        ensures { Decides result (stage < stages self.now) }
+    {
+        u16::from(stage) < self.size()
+    }
+
     /// Whether `b` and `a` are stages, and `b` stands at or above `a`.
     fn at_or_above(&self, b: u8, a: u8) -> bool
         ensures { Decides result ((b < stages self.now) × (a < stages self.now) × above self.now b a) };
@@ -62,8 +69,7 @@ impl Order for Ladder {
     }
 
     fn at_or_above(&self, b: u8, a: u8) -> bool {
-        let size = self.size();
-        u16::from(b) < size && u16::from(a) < size && a <= b
+        self.has_stage(b) && self.has_stage(a) && a <= b
     }
 }
 
@@ -93,8 +99,7 @@ impl Order for Flags {
     }
 
     fn at_or_above(&self, b: u8, a: u8) -> bool {
-        let size = self.size();
-        u16::from(b) < size && u16::from(a) < size && b & a == a
+        self.has_stage(b) && self.has_stage(a) && b & a == a
     }
 }
 
@@ -133,10 +138,10 @@ impl<A: Order, B: Order> Order for Pair<A, B> {
     }
 
     fn at_or_above(&self, b: u8, a: u8) -> bool {
-        let size = self.size();
-        if u16::from(b) >= size || u16::from(a) >= size {
+        if !self.has_stage(b) || !self.has_stage(a) {
             return false;
         }
+        // An order has 64 stages at most, so the cast loses nothing.
         let width = self.1.size() as u8;
         self.0.at_or_above(b / width, a / width) && self.1.at_or_above(b % width, a % width)
     }

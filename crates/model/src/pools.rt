@@ -1,6 +1,8 @@
 //! Pools: fixed sets of words, by two questions.
 ghost use Rattle.std.specs.Prelude.{ℕ, ◌⊎◌, List, Decides};
+ghost use Rattle.std.specs.Option.{IsSomeAnd};
 ghost use Rattle.std.proofs.Common.{⊎_elim};
+ghost use Rattle.model.specs.Pools.{option_symbols};
 ghost use Rattle.model.specs.Sieves.{Meets};
 ghost use Rattle.model.specs.Symbols.{Symbols};
 
@@ -10,9 +12,6 @@ use crate::sieve::Sieve;
 pub trait Pool {
     ghost words: { Self → List ℕ → Type 0 };
 
-    // a proof that each implementation gives: words are lists of symbols
-    ghost symbols: { (p : Self) (w : List ℕ) → words p w → Symbols w };
-
     /// Whether `word` is in the set.
     fn holds(&self, word: &[u8]) -> bool
         ensures { Decides result (words self.now word.now) };
@@ -20,10 +19,13 @@ pub trait Pool {
     /// Whether some word of the set ends at a wanted mark of the sieve.
     fn meets(&self, sieve: Sieve<'_>) -> bool
         ensures { Decides result (Meets (words self.now) sieve.entry) };
+
+    // words are lists of symbols
+    ghost symbols: { (p : Self) (w : List ℕ) → words p w → Symbols w };
 }
 
 /// The words of both pools.
-#[derive(Clone, Copy)]
+#[derive(Clone, Copy, PartialEq, Eq, Debug)]
 pub struct Either<A, B>(pub A, pub B);
 
 impl<A: Pool, B: Pool> Pool for Either<A, B> {
@@ -52,5 +54,26 @@ impl<'a, P: Pool> Pool for &'a P {
 
     fn meets(&self, sieve: Sieve<'_>) -> bool {
         (**self).meets(sieve)
+    }
+}
+
+/// The words of a pool that may be missing: without it there are none.
+impl<P: Pool> Pool for Option<P> {
+    ghost words = { λ o w. IsSomeAnd o (λ p. P.Pool.words p w) };
+
+    ghost symbols = { λ o w. option_symbols P.Pool.words P.Pool.symbols o w };
+
+    fn holds(&self, word: &[u8]) -> bool {
+        match self {
+            Some(pool) => pool.holds(word),
+            None => false,
+        }
+    }
+
+    fn meets(&self, sieve: Sieve<'_>) -> bool {
+        match self {
+            Some(pool) => pool.meets(sieve),
+            None => false,
+        }
     }
 }

@@ -1,15 +1,18 @@
 //! Sieves: a table of marks that words are read through.
 ghost use Rattle.std.specs.Prelude.{◌≡◌, Decides};
-ghost use Rattle.model.specs.Sieves.{mark, next, run, Wanted, Caught};
+ghost use Rattle.model.specs.Sieves.{mark, next, run, Wanted, WantedWhere, Caught};
 
 /// Marks are below this number.
 pub const MARKS: usize = 2048;
+
+/// The same number, in the type of a mark.
+pub(crate) const MARK_COUNT: u16 = MARKS as u16;
 
 /// A table of marks, the mark that words begin at, and which marks are wanted.
 ///
 /// A word is read from its innermost symbol outward. From mark `m`, symbol `s` leads to the mark
 /// at `16 m + s` of the table. A missing entry, and a number that is no mark, count as mark 0.
-#[derive(Clone, Copy)]
+#[derive(Clone, Copy, PartialEq, Eq, Debug)]
 pub struct Sieve<'a> {
     pub table: &'a [u16],
     pub first: u16,
@@ -19,38 +22,35 @@ pub struct Sieve<'a> {
 fn in_range(m: u16) -> u16
     ensures { result ≡ mark m }
 {
-    if usize::from(m) < MARKS { m } else { 0 }
+    if m < MARK_COUNT { m } else { 0 }
 }
 
 impl Sieve<'_> {
     /// The mark to which `symbol` leads from `m`.
-    pub(crate) fn next(&self, m: u16, symbol: u8) -> u16
+    pub fn next(&self, m: u16, symbol: u8) -> u16
         ensures { result ≡ next self.now.table.now m symbol }
     {
-        match self.table.get(16 * usize::from(m) + usize::from(symbol)) {
-            Some(entry) => in_range(*entry),
-            None => 0,
-        }
+        self.table
+            .get(16 * usize::from(m) + usize::from(symbol))
+            .map_or(0, |entry| in_range(*entry))
     }
 
-    pub(crate) fn is_wanted(&self, m: u16) -> bool
+    /// Whether `m` is a wanted mark.
+    pub fn is_wanted(&self, m: u16) -> bool
         ensures { Decides result (Wanted self.now.wanted.now m) }
     {
-        match self.wanted.get(usize::from(m)) {
-            Some(byte) => *byte != 0,
-            None => false,
-        }
+        self.wanted
+            .get(usize::from(m))
+            .is_some_and(|byte| *byte != 0)
     }
 
     /// The mark at which `word` ends.
-    fn run(&self, word: &[u8]) -> u16
+    pub fn run(&self, word: &[u8]) -> u16
         ensures { result ≡ run self.now.table.now (mark self.now.first) word.now }
     {
-        let mut m = in_range(self.first);
-        for i in (0..word.len()).rev() {
-            m = self.next(m, word[i]);
-        }
-        m
+        word.iter()
+            .rev()
+            .fold(in_range(self.first), |m, symbol| self.next(m, *symbol))
     }
 
     /// Whether `word` ends at a wanted mark.
@@ -59,4 +59,16 @@ impl Sieve<'_> {
     {
         self.is_wanted(self.run(word))
     }
+}
+
+/// The marks of which the test holds, as a list of wanted marks.
+pub fn wanted_where<F: Fn(u16) -> bool>(is_wanted: F) -> [u8; MARKS]
+    requires { F.IsAlwaysCallable is_wanted }
+    ensures { WantedWhere (F.post is_wanted) result }
+{
+    let mut wanted = [0; MARKS];
+    for (m, byte) in wanted.iter_mut().enumerate() {
+        *byte = u8::from(is_wanted(m as u16));
+    }
+    wanted
 }

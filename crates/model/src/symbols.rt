@@ -1,24 +1,13 @@
 //! Symbols: the keys 0 to 15 that words are made of.
-ghost use Rattle.std.specs.Prelude.{◌<◌, Decides};
+ghost use Rattle.std.specs.Prelude.{Decides};
 ghost use Rattle.std.specs.List.{AllByRecursion};
 ghost use Rattle.model.specs.Symbols.{Symbols, InSet};
-
-fn is_symbol(byte: u8) -> bool
-    ensures { Decides result (byte < 16) }
-{
-    byte < 16
-}
 
 /// Whether each byte of `word` is a symbol.
 pub fn all_symbols(word: &[u8]) -> bool
     ensures { Decides result (Symbols word.now) }
 {
-    for byte in word {
-        if !is_symbol(*byte) {
-            return false;
-        }
-    }
-    true
+    word.iter().all(|byte| *byte < 16)
 }
 
 /// A set of symbols: bit `s` says whether symbol `s` is in it.
@@ -26,20 +15,17 @@ pub fn all_symbols(word: &[u8]) -> bool
 pub struct SymbolSet(pub u16);
 
 impl SymbolSet {
+    /// Whether the symbol is in the set.
     pub fn has(self, symbol: u8) -> bool
         ensures { Decides result (InSet self.0 symbol) }
     {
         symbol < 16 && (self.0 >> symbol) % 2 == 1
     }
 
+    /// Whether each byte of `word` is a symbol of the set.
     pub fn has_all(self, word: &[u8]) -> bool
         ensures { Decides result (AllByRecursion (InSet self.0) word.now) }
     {
-        for symbol in word {
-            if !self.has(*symbol) {
-                return false;
-            }
-        }
-        true
+        word.iter().all(|symbol| self.has(*symbol))
     }
 }

@@ -1,6 +1,8 @@
 -- Clauses that are added one after another.
-use Rattle.std.proofs.Common.{◌≡◌, ℕ, ◌+◌, ◌≤◌, List, [], ◌∷◌, ◌++◌, length, sym, ap, subst, append_assoc, append-nil, arith}
+use Rattle.std.proofs.Common.{◌≡◌, ℕ, ◌+◌, ◌*◌, ◌≤◌, List, [], ◌∷◌, ◌++◌, length, sym, ap, ◌∙◌, subst, append_assoc, append-nil, arith}
 use Rattle.std.proofs.lemmas.List.{length_push}
+use Rattle.std.proofs.lemmas.Grind.{flat_map-append}
+use Rattle.std.specs.List.{flat_map}
 use Rattle.question.specs.Horns.{Bit, Horn}
 use Rattle.question.specs.Coding.{Coded, Coding, Coding.none, Coding.next, Appends, Adds}
 use Rattle.question.specs.declared.clause.Clause.{Clause}
@@ -24,6 +26,14 @@ module _ (all : List Bit) where
 
   pub adds_upto : (m n : ℕ) (hs : List Horn) (a b : List Clause) → m ≤ n → Adds all m hs a b → Adds all n hs a b
   adds_upto m n hs a b le p = record { coded = p.coded; few = omega (arith, p.few) }
+
+  -- The clauses for one item more, where each has at most four.
+  pub adds_item : {A : Type 0} (f : A → List Horn) (seen : List A) (x : A) (a b c : List Clause) → Adds all (4 * length seen) (flat_map f seen) a b → Adds all 4 (f x) b c →
+      Adds all (4 * length (seen ++ x ∷ [])) (flat_map f (seen ++ x ∷ [])) a c
+  adds_item f seen x a b c p q =
+      let more = flat_map-append f seen (x ∷ []) ∙ ap (λ l. flat_map f seen ++ l) (append-nil (f x)) in
+      subst (λ hs. Adds all (4 * length (seen ++ x ∷ [])) hs a c) (sym more)
+      (adds_upto (4 * length seen + 4) (4 * length (seen ++ x ∷ [])) _ a c (omega (arith, length_push seen x)) (adds_then (4 * length seen) 4 _ _ a b c p q))
 
 -- Whoever adds the clauses `left` to `now` has added `whole` to `before`; at most m were added so far.
 pub record Adding (all : List Bit) (whole : List Horn) (before : List Clause) (left : List Horn) (m : ℕ) (now : List Clause) : Type 0 where

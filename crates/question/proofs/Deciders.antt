@@ -1,10 +1,14 @@
 -- From a saturated table to words of the pool, and from those to runs.
-use Rattle.std.proofs.Common.{◌≡◌, ℕ, ◌<◌, ◌≤◌, Bool, ◌↔◌, List, [], length, Decides, sym, ap, ◌∙◌, subst, arith}
+use Rattle.std.proofs.Common.{◌≡◌, ℕ, ◌<◌, ◌≤◌, Bool, true, false, ◌↔◌, List, [], length, get_or, Option, Some, None, Decides, MatchBool, sym, refl, ap, ◌∙◌, subst, zero-add, arith}
+use Rattle.std.specs.List.{AllWithin, HoldsAt, enumerate_from}
+use Rattle.std.proofs.lemmas.Bool.{false≢true}
+use Rattle.std.proofs.lemmas.List.{get_or-map, length-map}
+use Rattle.std.proofs.lemmas.List.FromFn.{length-enumerate_from, get_or-enumerate_from}
 use Rattle.std.proofs.lemmas.Bool.Decides.{Decides-like}
 use Rattle.model.specs.Sieves.{mark, run, Wanted}
 use Rattle.model.specs.Symbols.{Symbols}
-use Rattle.question.specs.Accepts.{Has}
-use Rattle.question.specs.Coding.{Right}
+use Rattle.question.specs.Accepts.{Has, Accepts}
+use Rattle.question.specs.Coding.{supplier_of, suppliers_of, Right}
 use Rattle.question.specs.Feasible.{Accepted, Pooled, Served, Servable, RunsBy}
 use Rattle.question.specs.Marks.{Saturated}
 use Rattle.question.specs.Rises.{weight, weight_limit}
@@ -38,6 +42,43 @@ module _ (P : Word → Type 0) (symbols : (w : Word) → P w → Symbols w) wher
       (λ h j lt from. let x = h j (omega (arith, each)) from in (x.0, x.1, (right j lt x.0).0 x.2))
       (λ h j lt from. let lt' : j < length climb = omega (arith, each) in let x = h j lt' from in (x.0, x.1, (right j lt' x.0).1 x.2))
       (d cs t)
+
+supplier_zero : (s : Option ℕ) → supplier_of s ≡ 0 → s ≡ None
+supplier_zero None e = refl
+supplier_zero (Some j) e = absurd (omega (arith, e))
+
+-- What is found for each supplier with its number is found for each rule that the pool supplies.
+module _ (cs : List Clause) (P : Word → Type 0) (suppliers : List (Option ℕ)) where
+  abbrev Found : ℕ × Option ℕ → Type 0
+  Found p = p.1 ≡ None → (w : Word) × P w × Accepts cs p.0 w
+
+  abbrev Wants : ℕ → Type 0
+  Wants j = supplied_by (suppliers_of suppliers) j ≡ 0 → (w : Word) × P w × Accepts cs j w
+
+  module _ (k : ℕ) (less : k < length suppliers) where
+    at_number : get_or (enumerate_from 0 suppliers) k (0, None) ≡ (k, get_or suppliers k None)
+    at_number = get_or-enumerate_from 0 suppliers k (0, None) less ∙ ap (λ n. (n, get_or suppliers k None)) (zero-add k)
+
+    supplier_at : supplied_by (suppliers_of suppliers) k ≡ supplier_of (get_or suppliers k None)
+    supplier_at = get_or-map supplier_of suppliers k None 0 less
+
+    wanted_at : Found (get_or (enumerate_from 0 suppliers) k (0, None)) ↔ Wants k
+    wanted_at = (λ h zero. subst Found at_number h (supplier_zero _ (sym supplier_at ∙ zero)), λ h. subst Found (sym at_number) (λ none. h (supplier_at ∙ ap supplier_of none)))
+
+  pub found_by_all : (r : Bool) →
+      MatchBool r (AllWithin Found (enumerate_from 0 suppliers) 0 (length (enumerate_from 0 suppliers)))
+      ((k : ℕ) × (k < length (enumerate_from 0 suppliers)) × HoldsAt (λ p. Found p → ⊥) (enumerate_from 0 suppliers) k) →
+      Decides r ((j : ℕ) → j < length (suppliers_of suppliers) → Wants j)
+  found_by_all true h = (
+    λ _ j less. (wanted_at j (omega (arith, less, length-map suppliers supplier_of))).0 (h j (0, None) (omega arith) (omega (arith, less, length-map suppliers supplier_of, length-enumerate_from 0 suppliers))),
+    λ _. refl,
+  )
+  found_by_all false (k, less, h) = (
+    λ e. absurd (false≢true e),
+    λ all.
+        let less' : k < length suppliers = omega (arith, less, length-enumerate_from 0 suppliers) in
+        absurd (h (0, None) ((wanted_at k less').1 (all k (omega (arith, less', length-map suppliers supplier_of))))),
+  )
 
 module _ (rules : List Rule) (P : Word → Type 0) (climb : Climb) where
   -- With these suppliers the pool serves the climb.

@@ -8,7 +8,7 @@ use Rattle.question.specs.Stable.{TrueOf, Sound, Holds, Stable}
 use Rattle.question.proofs.Laid.{held_symbols}
 use Rattle.question.specs.declared.clause.Clause.{Clause}
 
-read_append : (t w x : List ℕ) (m : ℕ) → read_from t (w ++ x) m ≡ read_from t w (read_from t x m)
+pub read_append : (t w x : List ℕ) (m : ℕ) → read_from t (w ++ x) m ≡ read_from t w (read_from t x m)
 read_append t [] x m = refl
 read_append t (a ∷ w) x m = ap (λ n. cell_of t n a) (read_append t w x m)
 

@@ -1,7 +1,6 @@
 -- What a clause adds to a value.
 use Rattle.std.proofs.Common.{◌≡◌, ℕ, ◌^◌, ◌<◌, List, Some, None, Option, sym, refl, ◌∙◌, subst, inl, inr, ⊎_elim}
-use lib.Bits.{bit_or, or_lt}
-use Rattle.std.proofs.lemmas.Nat.{pow_below}
+use lib.Bits.{bit_or}
 use Rattle.question.specs.Accepts.{Stands, body_word, under, Accepts, by}
 use Rattle.question.specs.Marks.{Rows}
 use Rattle.question.specs.Stable.{TrueOf, Sound, Holds, Fit, beneath, Grown}
@@ -9,12 +8,11 @@ use Rattle.question.proofs.Bitsets.{or_more, has_or_right, has_or_cases, has_one
 use Rattle.question.proofs.Deciding.{read_true, body_symbols}
 use Rattle.question.specs.declared.clause.Clause.{Clause}
 
-pub grown_add : {t : List ℕ} {c : Clause} {from old : ℕ} → old < 2048 → Holds t c from → Grown t c from old (bit_or old (2 ^ c.head))
-grown_add {c = c} {old = old} small holds =
+pub grown_add : {t : List ℕ} {c : Clause} {from old : ℕ} → Holds t c from → Grown t c from old (bit_or old (2 ^ c.head))
+grown_add {c = c} {old = old} holds =
     let bit = 2 ^ c.head in
     record {
       more = or_more old bit;
-      below = or_lt 11 old bit small (pow_below c.head 11 c.bit);
       right = λ b h. ⊎_elim inl (λ one. inr (one_has c.head b one, holds)) (has_or_cases old bit b h);
       settled = λ _. has_or_right old bit c.head (has_one c.head);
     }

@@ -1,7 +1,5 @@
 -- Lists that grow at their end up to a whole.
-use Rattle.std.proofs.Common.{◌≡◌, ℕ, ◌<◌, List, [], ◌∷◌, ◌++◌, map, length, sym, ap, ◌∙◌, append_assoc, append-nil, arith, length-append}
-use lib.ListN.{length-map}
-use Rattle.std.proofs.lemmas.List.{map_push}
+use Rattle.std.proofs.Common.{◌≡◌, ℕ, ◌<◌, List, [], ◌++◌, length, sym, ap, ◌∙◌, append_assoc, append-nil, arith, length-append}
 
 -- The items of `left` are to be added, and us come first.
 module _ {X : Type 0} (whole now left us rest : List X) (step : left ≡ us ++ rest) (inv : now ++ left ≡ whole) where
@@ -16,6 +14,3 @@ module _ {X : Type 0} (whole now left us rest : List X) (step : left ≡ us ++ r
 
 pub grown_end : {X : Type 0} (whole now left : List X) → left ≡ [] → now ++ left ≡ whole → now ≡ whole
 grown_end whole now left e inv = sym (append-nil now) ∙ ap (λ l. now ++ l) (sym e) ∙ inv
-
-pub map_over : {X Y : Type 0} (f : X → Y) (xs : List X) (x : X) (most : ℕ) → most < length (xs ++ x ∷ []) → most < length (map f xs ++ f x ∷ [])
-map_over f xs x most h = omega (arith, h, length-map (xs ++ x ∷ []) f, ap length (map_push f xs x))

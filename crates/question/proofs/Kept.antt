@@ -1,7 +1,8 @@
 -- Words that are kept once each, in a list that grows.
-use Rattle.std.proofs.Common.{◌≡◌, ℕ, zero, suc, ◌+◌, ◌-◌, ◌<◌, ◌≤◌, Bool, true, false, cond, List, [], ◌∷◌, ◌++◌, map, length, get_or, take, drop, sym, refl, ap, ◌∙◌, arith}
-use Rattle.std.proofs.lemmas.List.{at_drop_more, at_drop_all, map_push, length_push}
-use Rattle.std.proofs.lemmas.Bool.{cond_both, cond-false}
+use Rattle.std.proofs.Common.{◌≡◌, ℕ, zero, suc, ◌+◌, ◌-◌, ◌<◌, ◌≤◌, Bool, true, false, cond, ◌||◌, List, [], ◌∷◌, ◌++◌, map, length, get_or, take, drop, sym, refl, ap, ◌∙◌, arith}
+use Rattle.std.proofs.lemmas.List.{at_drop_more, length_push}
+use Rattle.std.proofs.lemmas.Bool.{cond_both}
+use Rattle.std.specs.List.{list_any}
 use Rattle.std.specs.Str.{bytes_eq}
 use Rattle.question.specs.Lists.{numbers, between}
 use Rattle.question.specs.Runs.{Word}
@@ -9,23 +10,19 @@ use Rattle.question.specs.Rises.{among, kept, beginnings}
 use Rattle.question.specs.Rows.{held}
 use Rattle.question.specs.Rules.{words_of}
 use Rattle.question.specs.declared.row.Row.{Row}
-use Rattle.question.proofs.Members.{between_first, between_past}
+use Rattle.question.proofs.Members.{between_first}
 
-module _ (u : Word) (rows : List (Row 4)) (i : ℕ) where
-  -- u is among the rows from i on
-  abbrev Among : ℕ → Bool
-  Among k = among u (words_of (drop k rows))
+pub any_among : (u : Word) (rows : List (Row 4)) → list_any (λ r. bytes_eq u (held r)) rows ≡ among u (words_of rows)
+any_among u [] = refl
+any_among u (r ∷ rows) = turned (bytes_eq u (held r)) _ ∙ ap (cond (bytes_eq u (held r)) true) (any_among u rows)
+  where
+    turned : (b d : Bool) → (b || d) ≡ cond b true d
+    turned true d = refl
+    turned false d = refl
 
-  pub among_next : (x : Row 4) (t : Bool) → i < length rows → x ≡ get_or rows i x → t ≡ bytes_eq u (held x) → Among i ≡ cond t true (Among (i + 1))
-  among_next x t less is e =
-      at_drop_more (λ l. among u (words_of l)) rows i x less
-      ∙ ap (λ s. cond s true (Among (i + 1))) (sym (e ∙ ap (λ y. bytes_eq u (held y)) is))
-
-  pub among_none : length rows ≤ i → Among i ≡ false
-  among_none le = at_drop_all (λ l. among u (words_of l)) rows i le
-
-pub kept_new : (rows : List (Row 4)) (x : Row 4) → among (held x) (words_of rows) ≡ false → words_of (rows ++ x ∷ []) ≡ kept (words_of rows) (held x ∷ [])
-kept_new rows x new = map_push held rows x ∙ sym (cond-false _ _ _ new)
+-- what the rows from number k on hold
+pub rows_next : (rows : List (Row 4)) (k : ℕ) (x : Row 4) → k < length rows → x ≡ get_or rows k x → words_of (drop k rows) ≡ held x ∷ words_of (drop (k + 1) rows)
+rows_next rows k x less is = at_drop_more words_of rows k x less ∙ ap (λ y. held y ∷ words_of (drop (k + 1) rows)) (sym is)
 
 kept_longer : (seen us : List Word) → length seen ≤ length (kept seen us)
 kept_longer seen [] = omega arith
@@ -68,6 +65,3 @@ from_one (a ∷ b ∷ l) =
 
 pub from_length_next : (l : Word) (m : ℕ) (u : Word) → m < length l → u ≡ take m l → from_length l m ≡ u ∷ from_length l (m + 1)
 from_length_next l m u less is = ap (map (λ k. take k l)) (between_first m (length l) less) ∙ ap (λ v. v ∷ from_length l (m + 1)) (sym is)
-
-pub from_length_end : (l : Word) (m : ℕ) → length l ≤ m → from_length l m ≡ []
-from_length_end l m le = ap (map (λ k. take k l)) (between_past m (length l) le)

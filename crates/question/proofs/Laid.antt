@@ -1,8 +1,8 @@
 -- Words that are laid into places of fixed size, over zeros.
-use Rattle.std.proofs.Common.{◌≡◌, ℕ, zero, suc, ◌+◌, ◌-◌, ◌<◌, ◌≤◌, List, [], ◌∷◌, ◌++◌, length, get_or, take, drop, set, replicate, sym, ap, ◌∙◌, subst, arith}
-use lib.ListN.{length-replicate}
+use Rattle.std.proofs.Common.{◌≡◌, ℕ, zero, suc, ◌+◌, ◌-◌, ◌<◌, ◌≤◌, List, [], ◌∷◌, ◌++◌, length, get_or, drop, replicate, sym, ap, ap₂, ◌∙◌, subst, arith}
+use borrow.Rule.Slice.PartMut.{put_mid}
 use Rattle.std.proofs.ByRecursion.{All-from_get_or, All-append, All-take}
-use Rattle.std.proofs.lemmas.List.{set_at, length-append, length-take-le, append_assoc, append-nil, take_more, take_all, take_at, drop_at, take-append-drop}
+use Rattle.std.proofs.lemmas.List.{length-append, length-replicate, length-take-le, append_assoc, drop_at, drop-replicate, take-append-drop}
 use Rattle.model.specs.Symbols.{Symbols}
 use Rattle.question.specs.Rows.{held}
 use Rattle.question.specs.declared.row.Row.{Row}
@@ -36,9 +36,6 @@ module _ (n : ℕ) {len : ℕ} (w : List ℕ) {symbols : List ℕ} (is : symbols
       let blank : drop len symbols ≡ replicate (n - len) 0 = ap (drop len) is ∙ drop_at w _ len (sym counted) ∙ ap (λ k. replicate (n - k) 0) (sym counted) in
       record { short = short; wide = wide; below = below; blank = blank }
 
-  pub laid_held : take len symbols ≡ w
-  laid_held = ap (take len) is ∙ take_at w _ len (sym counted)
-
 -- a row, and a word that is laid behind what it holds
 module _ {N : ℕ} (r : Row N) where
   pub held_symbols : Symbols (held r)
@@ -51,20 +48,11 @@ module _ {N : ℕ} (r : Row N) where
   held_laid = sym (take-append-drop r.len r.symbols) ∙ ap (λ z. held r ++ z) (r.blank ∙ ap (λ k. replicate (N - k) 0) (sym length_held))
 
   module _ (w : List ℕ) where
-    pub behind_none : r.symbols ≡ laid N (held r ++ take 0 w)
-    behind_none = held_laid ∙ ap (laid N) (sym (append-nil (held r)))
-
-    pub behind_more : (i : ℕ) {symbols : List ℕ} → i < length w → r.len + i < N → symbols ≡ laid N (held r ++ take i w) → set symbols (r.len + i) (get_or w i 0) ≡ laid N (held r ++ take (i + 1) w)
-    behind_more i within room is =
-        let p = held r ++ take i w in
-        let x = get_or w i 0 in
-        let long : length p ≡ r.len + i = length-append (held r) (take i w) ∙ omega (arith, length_held, length-take-le i w (omega arith)) in
-        let next : p ++ x ∷ [] ≡ held r ++ take (i + 1) w = append_assoc (held r) (take i w) (x ∷ []) ∙ ap (λ v. held r ++ v) (sym (take_more w i 0 within)) in
-        let left : N - length p ≡ suc (N - length (p ++ x ∷ [])) = omega (arith, length-append p (x ∷ [])) in
-        ap (λ s. set s (r.len + i) x) is ∙ ap (λ m. set (p ++ replicate m 0) (r.len + i) x) left ∙ set_at p 0 _ x (r.len + i) long ∙ sym (append_assoc p (x ∷ []) _) ∙ ap (laid N) next
-
-    pub behind_all : (i : ℕ) {symbols : List ℕ} → length w ≤ i → symbols ≡ laid N (held r ++ take i w) → symbols ≡ laid N (held r ++ w)
-    behind_all i all is = is ∙ ap (λ v. laid N (held r ++ v)) (take_all i w all)
+    pub behind : (k : ℕ) (copy : List ℕ) → k ≡ length w → copy ≡ w → put_mid r.len k r.symbols copy ≡ laid N (held r ++ w)
+    behind k copy counted is =
+        let rest : drop k (drop r.len r.symbols) ≡ replicate (N - length (held r ++ w)) 0 =
+        ap (drop k) r.blank ∙ drop-replicate k (N - r.len) 0 ∙ ap (λ m. replicate m 0) (omega (arith, length_held, length-append (held r) w)) in
+        sym (append_assoc (held r) copy _) ∙ ap₂ (λ v z. (held r ++ v) ++ z) is rest
 
     pub length_behind : r.len + length w ≡ length (held r ++ w)
     length_behind = omega (arith, length_held, length-append (held r) w)

@@ -46,6 +46,7 @@ pub mod Nest
 pub mod Ways
 pub mod Answered
 mod Deciders
+mod Clearing
 mod Judges
 mod Places
 mod Trails

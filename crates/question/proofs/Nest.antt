@@ -64,9 +64,6 @@ module _ (rules : List Rule) (g : ℕ) (serves : Climb → Type 0) (n : ℕ) whe
 
   -- The turns of a loop.
 
-  pub clear_none : {d : Climb} {p : ℕ} → Clear d p 0
-  clear_none = record { below = λ j h. absurd (omega arith) }
-
   clear_more : {d : Climb} {p k : ℕ} → Clear d p k → ((x : Climb) → Open d p (k ∷ x) → ⊥) → Clear d p (k + 1)
   clear_more c h = record { below = below_more _ _ c.below h }
 

@@ -1,10 +1,13 @@
 -- The bits that a rule's word has to serve are gathered in a set.
-use Rattle.std.proofs.Common.{◌≡◌, ℕ, suc, ◌+◌, ◌<◌, Bool, true, false, cond, eqb, List, [], ◌∷◌, ◌++◌, map, filter, refl, ap, ◌∙◌, add-one}
+use Rattle.std.proofs.Common.{◌≡◌, ℕ, suc, ◌+◌, ◌<◌, Bool, true, false, cond, eqb, List, [], ◌∷◌, ◌++◌, length, get_or, map, filter, Option, Some, None, sym, ap, ◌∙◌, append_assoc, add-one}
+use Rattle.std.specs.Option.{option_eq}
+use Rattle.std.proofs.Math.Dec.{eqb-zero-suc, eqb-suc-suc}
+use Rattle.std.proofs.lemmas.List.{get_or-map}
 use lib.Bits.{bit_or}
 use Rattle.question.specs.Lists.{between}
 use Rattle.question.specs.Horns.{Bit, base, served}
-use Rattle.question.specs.Coding.{SetOf}
-use Rattle.question.proofs.Grown.{grown_next}
+use Rattle.question.specs.Supply.{supplied_by}
+use Rattle.question.specs.Coding.{SetOf, supplier_of, suppliers_of}
 use Rattle.question.proofs.Members.{between_first}
 use Rattle.question.proofs.Sets.{set_none, set_or}
 
@@ -22,17 +25,32 @@ pub record Serving (all : List Bit) (supplier : ℕ → ℕ) (n j k set : ℕ) :
 pub serving_start : (all : List Bit) (supplier : ℕ → ℕ) (n j : ℕ) → Serving all supplier n j (j + 1) 0
 serving_start all supplier n j = record { done = []; has = set_none all; rest = ap (served_from supplier n j) (add-one j) }
 
-module _ {all : List Bit} {supplier : ℕ → ℕ} {n j k set : ℕ} (inv : Serving all supplier n j k set) where
-  pub serving_next : (one : ℕ) → k < n → SetOf all (cond (eqb (supplier k) (suc j)) (base (suc j) k ∷ []) []) one → Serving all supplier n j (k + 1) (bit_or set one)
-  serving_next one less Has-one = record {
-    done = inv.done ++ _;
-    has = set_or all inv.done _ set one inv.has Has-one;
-    rest = grown_next _ inv.done _ _ _ (ap gather (between_first k n less) ∙ split (eqb (supplier k) (suc j))) inv.rest _ refl;
-  }
+module _ {all : List Bit} {supplier : ℕ → ℕ} {n j k set : ℕ} (inv : Serving all supplier n j k set) (less : k < n) where
+  -- The bits for the rules from k on, by whether rule j supplies rule k.
+  by_test : (t : Bool) → t ≡ eqb (supplier k) (suc j) → served_from supplier n j k ≡ cond t (base (suc j) k ∷ []) [] ++ served_from supplier n j (k + 1)
+  by_test t e = ap gather (between_first k n less) ∙ split t e
     where
       gather : List ℕ → List Bit
       gather ks = map (base (suc j)) (filter (λ i. eqb (supplier i) (suc j)) ks)
 
-      split : (t : Bool) → map (base (suc j)) (cond t (k ∷ filter (λ i. eqb (supplier i) (suc j)) (between (k + 1) n)) (filter (λ i. eqb (supplier i) (suc j)) (between (k + 1) n))) ≡ cond t (base (suc j) k ∷ []) [] ++ served_from supplier n j (k + 1)
-      split true = refl
-      split false = refl
+      split : (t : Bool) → t ≡ eqb (supplier k) (suc j) → gather (k ∷ between (k + 1) n) ≡ cond t (base (suc j) k ∷ []) [] ++ served_from supplier n j (k + 1)
+      split true e = ap (λ s. map (base (suc j)) (cond s (k ∷ filter (λ i. eqb (supplier i) (suc j)) (between (k + 1) n)) (filter (λ i. eqb (supplier i) (suc j)) (between (k + 1) n)))) (sym e)
+      split false e = ap (λ s. map (base (suc j)) (cond s (k ∷ filter (λ i. eqb (supplier i) (suc j)) (between (k + 1) n)) (filter (λ i. eqb (supplier i) (suc j)) (between (k + 1) n)))) (sym e)
+
+  pub serving_next : (one : ℕ) → true ≡ eqb (supplier k) (suc j) → SetOf all (base (j + 1) k ∷ []) one → Serving all supplier n j (k + 1) (bit_or set one)
+  serving_next one e Has-one = record {
+    done = inv.done ++ base (j + 1) k ∷ [];
+    has = set_or all inv.done _ set one inv.has Has-one;
+    rest = append_assoc inv.done (base (j + 1) k ∷ []) (served_from supplier n j (k + 1)) ∙ ap (λ a. inv.done ++ (base a k ∷ served_from supplier n j (k + 1))) (add-one j) ∙ ap (λ l. inv.done ++ l) (sym (by_test true e)) ∙ inv.rest;
+  }
+
+  pub serving_skip : false ≡ eqb (supplier k) (suc j) → Serving all supplier n j (k + 1) set
+  serving_skip e = record { done = inv.done; has = inv.has; rest = ap (λ l. inv.done ++ l) (sym (by_test false e)) ∙ inv.rest }
+
+-- What the code finds out of a supplier.
+pub supplied_is : (suppliers : List (Option ℕ)) (k j : ℕ) (d : Option ℕ) → k < length suppliers → option_eq eqb (get_or suppliers k d) (Some j) ≡ eqb (supplied_by (suppliers_of suppliers) k) (suc j)
+supplied_is suppliers k j d less = same (get_or suppliers k d) ∙ ap (λ s. eqb s (suc j)) (sym (get_or-map supplier_of suppliers k d 0 less))
+  where
+    same : (s : Option ℕ) → option_eq eqb s (Some j) ≡ eqb (supplier_of s) (suc j)
+    same None = sym (eqb-zero-suc j)
+    same (Some i) = sym (eqb-suc-suc i j)

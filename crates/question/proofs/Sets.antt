@@ -1,9 +1,11 @@
 -- The number of a bit, and sets of numbers.
-use Rattle.std.proofs.Common.{◌≡◌, ℕ, suc, ◌+◌, ◌*◌, ◌%◌, ◌^◌, ◌<◌, ◌≤◌, Bool, false, cond, List, [], ◌∷◌, ◌++◌, map, length, get_or, drop, sym, refl, ap, ◌∙◌, subst, ⊎_elim, mod-eq_of_lt, one-mul, arith}
+use Rattle.std.proofs.Common.{◌≡◌, ℕ, ◌*◌, ◌%◌, ◌^◌, ◌<◌, cond, Some, List, [], ◌∷◌, ◌++◌, map, length, sym, refl, ap, ◌∙◌, subst, ⊎_elim, mod-eq_of_lt, one-mul, one-add, arith}
 use lib.Bits.{bit_or}
 use lib.ListN.{length-map}
 use Rattle.std.proofs.lemmas.Nat.{pow_below}
-use Rattle.std.proofs.lemmas.List.{at_drop_more, at_drop_all}
+use Rattle.std.specs.List.{position, position_or_len}
+use Rattle.std.proofs.lemmas.Bool.{lt-ltb}
+use Rattle.std.proofs.lemmas.List.Recursion.{is_position_or_len}
 use Rattle.question.specs.Lists.{In, In.here}
 use Rattle.question.specs.Horns.{Bit}
 use Rattle.question.specs.Bits.{same_bit, place, bit_of}
@@ -14,19 +16,16 @@ use Rattle.question.proofs.Lists.{in_left, in_right, in_either}
 use Rattle.question.proofs.Members.{in_one}
 use Rattle.question.proofs.Numbered.{place_below}
 
-module _ (b : Bit) (slots : List Slot) (i : ℕ) where
-  -- The place of b in what comes from place i on.
-  abbrev pub place_from : ℕ
-  place_from = place b (map bit_of (drop i slots))
+-- The number of b is the first place of a slot with b.
+module _ (b : Bit) where
+  pub place_position : (slots : List Slot) → place b (map bit_of slots) ≡ position_or_len (λ s. same_bit b (bit_of s)) slots
+  place_position slots = is_position_or_len (λ l. place b (map bit_of l)) (λ s. same_bit b (bit_of s)) refl (λ x xs. ap (cond (same_bit b (bit_of x)) 0) (sym (one-add (place b (map bit_of xs))))) slots
 
-module _ (b : Bit) (slots : List Slot) (i : ℕ) where
-  pub place_next : (d : Slot) (t : Bool) → i < length slots → d ≡ get_or slots i d → t ≡ same_bit b (bit_of d) → place_from b slots i ≡ cond t 0 (suc (place_from b slots (i + 1)))
-  place_next d t less is e =
-      at_drop_more (λ l. place b (map bit_of l)) slots i d less
-      ∙ ap (λ s. cond s 0 (suc (place_from b slots (i + 1)))) (sym (e ∙ ap (λ x. same_bit b (bit_of x)) is))
-
-  pub place_missed : i ≤ length slots → length slots ≤ i → i + place_from b slots i ≡ place b (map bit_of slots) → In b (map bit_of slots) → ⊥
-  place_missed le ge inv h = omega (arith, inv, at_drop_all (λ l. place b (map bit_of l)) slots i ge, place_below h, length-map slots bit_of)
+  pub place_found : (slots : List Slot) → In b (map bit_of slots) → position (λ s. same_bit b (bit_of s)) slots ≡ Some (place b (map bit_of slots))
+  place_found slots h =
+      let e = place_position slots in
+      let within : position_or_len (λ s. same_bit b (bit_of s)) slots < length slots = omega (arith, place_below h, length-map slots bit_of, e) in
+      rw (lt-ltb _ _ within) (ap Some (sym e))
 
 module _ (all : List Bit) where
   set_one : (b : Bit) → SetOf all (b ∷ []) (2 ^ place b all)
@@ -40,9 +39,6 @@ module _ (all : List Bit) where
 
   pub set_none : SetOf all [] 0
   set_none m = (λ h. absurd (none_has m h), λ r. elim r.1 [ ])
-
-  pub set_unless : (bs : List Bit) (t : Bool) → false ≡ t → SetOf all (cond t bs []) 0
-  set_unless bs t e = subst (λ s. SetOf all (cond s bs []) 0) e set_none
 
   pub set_or : (bs ds : List Bit) (x y : ℕ) → SetOf all bs x → SetOf all ds y → SetOf all (bs ++ ds) (bit_or x y)
   set_or bs ds x y p q m = (

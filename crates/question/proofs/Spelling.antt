@@ -1,6 +1,6 @@
 -- A left side is spelled symbol by symbol.
-use Rattle.std.proofs.Common.{◌≡◌, ℕ, ◌+◌, ◌<◌, ◌≤◌, List, [], ◌∷◌, length, get_or, take, drop, Some, sym, refl, ap, ◌∙◌, ap₂, arith}
-use Rattle.std.proofs.lemmas.List.{drop_more, drop_all, take_more}
+use Rattle.std.proofs.Common.{◌≡◌, ℕ, ◌+◌, ◌<◌, ◌≤◌, List, [], ◌∷◌, ◌++◌, length, get_or, take, drop, Some, sym, refl, ap, ◌∙◌, ap₂, arith}
+use Rattle.std.proofs.lemmas.List.{drop_more, drop_all, take_more, take_at, get_or_push, length_push}
 use Rattle.question.specs.Runs.{Word}
 use Rattle.question.specs.Horns.{Bit, bit, base, Horn, horn, spelled}
 use Rattle.question.specs.declared.clause.Clause.{Clause}
@@ -36,9 +36,14 @@ module _ (all : List Bit) (i j : ℕ) (l w : Word) (before now now' : List Claus
   pub spelling_next : m + 1 < length l → Adds all 1 (reads i j l m ∷ []) now now' → Spelling all i j l w before (m + 1) now'
   spelling_next less p bs = adding_next (inv bs) (reads i j l m ∷ []) _ 1 (m + 1) now' (spelled_next i j l w bs m less) (omega arith) p
 
-  pub spelling_end : m + 1 ≡ length l → length l ≤ 4 → (bs : List Bit) → Adds all 1 (horn (bit i j (take m l)) (Some (get_or l m 0)) w bs ∷ []) now now' →
+  -- The last clause, where the word is `front` and then the symbol x.
+  pub spelling_end : (front : Word) (x : ℕ) → l ≡ front ++ x ∷ [] → m ≡ length front → length l ≤ 4 → (bs : List Bit) → Adds all 1 (horn (bit i j front) (Some x) w bs ∷ []) now now' →
       Adds all 4 (spelled (base i j) l w bs) before now'
-  spelling_end e short bs p =
+  spelling_end front x split done short bs p =
+      let m_last : m + 1 ≡ length l = omega (arith, ap length split, length_push front x, done) in
+      let read : take m l ≡ front = ap (take m) split ∙ take_at front (x ∷ []) m (sym done) in
+      let symbol : get_or l m 0 ≡ x = ap (λ l. get_or l m 0) split ∙ get_or_push front x 0 m (sym done) in
+      let is : horn (bit i j (take m l)) (Some (get_or l m 0)) w bs ≡ horn (bit i j front) (Some x) w bs = ap₂ (λ u a. horn (bit i j u) (Some a) w bs) read symbol in
       adding_end
-      (adding_next (inv bs) (horn (bit i j (take m l)) (Some (get_or l m 0)) w bs ∷ []) [] 1 (m + 1) now' (spelled_last i j l w bs m e) (omega arith) p)
+      (adding_next (inv bs) (horn (bit i j front) (Some x) w bs ∷ []) [] 1 (m + 1) now' (spelled_last i j l w bs m m_last ∙ ap (λ h. h ∷ []) is) (omega arith) p)
       4 refl (omega arith)

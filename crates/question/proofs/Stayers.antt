@@ -1,14 +1,15 @@
 -- A walk over the staying rules of a stage.
-use Rattle.std.proofs.Common.{◌≡◌, ℕ, ◌+◌, ◌<◌, ◌≤◌, Bool, true, false, cond, List, [], ◌∷◌, ◌++◌, length, get_or, drop, sym, ap, ◌∙◌, arith}
+use Rattle.std.proofs.Common.{◌≡◌, ℕ, ◌+◌, ◌<◌, ◌≤◌, Bool, true, false, cond, List, [], ◌∷◌, ◌++◌, length, get_or, map, filter, drop, sym, refl, ap, ◌∙◌, subst, arith, Bor}
+use Rattle.std.proofs.lemmas.List.Folds.{flat_map-map}
+use Rattle.std.proofs.lemmas.List.Sums.{length-filter, count_by-le-length}
 use lib.ListN.{length-map}
 use Rattle.std.proofs.lemmas.List.{at_drop_more, at_drop_all, get_or-map}
 use Rattle.std.specs.List.{flat_map}
 use Rattle.question.specs.Lists.{In}
-use Rattle.question.specs.Runs.{Rule, no_rule}
+use Rattle.question.specs.Runs.{Rule}
 use Rattle.question.specs.Rises.{stays_at, staying}
 use Rattle.question.specs.Rules.{rule_of, rules_of}
 use Rattle.question.specs.declared.rule.Rule.{Rule as Held}
-use Rattle.question.proofs.Lists.{in_kept_by}
 use Rattle.question.proofs.Members.{in_get_d}
 
 -- What f gives for the staying rules from number k on.
@@ -29,6 +30,28 @@ module _ {X : Type 0} (f : Rule → List X) (p : ℕ) (rules : List Held) (k : �
   pub from_rule_end : length rules ≤ k → from_rule f p rules k ≡ []
   from_rule_end le = at_drop_all (λ l. flat_map f (staying (rules_of l) p)) rules k le
 
-pub stayer_in : (p : ℕ) (rules : List Held) (k : ℕ) (r : Held) → k < length rules → r ≡ get_or rules k r → stays_at p (rule_of r) ≡ true → In (rule_of r) (staying (rules_of rules) p)
-stayer_in p rules k r less is t =
-    in_kept_by (stays_at p) (in_get_d no_rule (rules_of rules) k (omega (arith, length-map rules rule_of)) (ap rule_of is ∙ sym (get_or-map rule_of rules k r no_rule less))) t
+-- The rules of the code that stay at the stage p.
+abbrev pub stayers : ℕ → List Held → List Held
+stayers p rules = filter (λ r. stays_at p (rule_of r)) rules
+
+stayers_stand : (p : ℕ) (rules : List Held) → rules_of (stayers p rules) ≡ staying (rules_of rules) p
+stayers_stand p [] = refl
+stayers_stand p (r ∷ rules) = by (stays_at p (rule_of r)) (stayers_stand p rules)
+  where
+    by : (t : Bool) → rules_of (stayers p rules) ≡ staying (rules_of rules) p → rules_of (cond t (r ∷ stayers p rules) (stayers p rules)) ≡ cond t (rule_of r ∷ staying (rules_of rules) p) (staying (rules_of rules) p)
+    by true e = ap (λ l. rule_of r ∷ l) e
+    by false e = e
+
+pub stayer_in : (p : ℕ) (rules : List Held) (k : ℕ) (r : Held) → (k < length (stayers p rules)) × (r ≡ get_or (stayers p rules) k r) → In (rule_of r) (staying (rules_of rules) p)
+stayer_in p rules k r (less, is) =
+    let all = stayers p rules in
+    subst (In (rule_of r)) (stayers_stand p rules) (in_get_d (rule_of r) (rules_of all) k (omega (arith, length-map all rule_of, less)) (ap rule_of is ∙ sym (get_or-map rule_of all k r (rule_of r) less)))
+
+pub stayers_few : (p : ℕ) (rules : List Held) → length (stayers p rules) ≤ length rules
+stayers_few p rules = omega (arith, length-filter (λ r. stays_at p (rule_of r)) rules, count_by-le-length (λ r. stays_at p (rule_of r)) rules)
+
+-- What f gives for all of them, once they were yielded.
+pub stayers_yielded : {X : Type 0} (f : Rule → List X) (p : ℕ) (rules : List Held) (yielded : List (Bor Held)) → map (λ r. r.now) yielded ≡ stayers p rules →
+    flat_map (λ r. f (rule_of r.now)) yielded ≡ flat_map f (staying (rules_of rules) p)
+stayers_yielded f p rules yielded e =
+    sym (flat_map-map (λ r. f (rule_of r)) (λ r. r.now) yielded) ∙ ap (flat_map (λ r. f (rule_of r))) e ∙ sym (flat_map-map f rule_of (stayers p rules)) ∙ ap (flat_map f) (stayers_stand p rules)

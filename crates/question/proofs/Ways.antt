@@ -1,14 +1,20 @@
 -- Each choice of suppliers has a number.
-use Rattle.std.proofs.Common.{◌≡◌, ℕ, zero, suc, ◌+◌, ◌*◌, ◌/◌, ◌%◌, ◌<◌, ◌≤◌, List, [], ◌∷◌, length, get_or, take, sym, refl, subst, arith, length-take-le}
+use Rattle.std.proofs.Common.{◌≡◌, ℕ, zero, suc, ◌+◌, ◌*◌, ◌/◌, ◌%◌, ◌<◌, ◌≤◌, List, [], ◌∷◌, length, get_or, take, Option, sym, refl, ap, ◌∙◌, subst, arith, length-take-le}
+use Rattle.std.proofs.lemmas.List.{take-map}
+use Rattle.question.specs.Coding.{supplier_of, suppliers_of}
 use Rattle.question.specs.Ways.{Supplies, ways}
 
 -- Way number w to supply four rules.
-abbrev four : ℕ → List ℕ
+abbrev pub four : ℕ → List ℕ
 four w = 0 ∷ w % 2 ∷ w / 2 % 3 ∷ w / 6 ∷ []
 
 -- Way number w to supply n rules.
 abbrev pub way : ℕ → ℕ → List ℕ
 way n w = take n (four w)
+
+-- The same, of suppliers of the code.
+pub way_is : (n w : ℕ) (suppliers : List (Option ℕ)) → suppliers_of suppliers ≡ four w → suppliers_of (take n suppliers) ≡ way n w
+way_is n w suppliers e = sym (take-map supplier_of n suppliers) ∙ ap (take n) e
 
 take_below : (n : ℕ) (l : List ℕ) (j : ℕ) → get_or (take n l) j 0 ≤ get_or l j 0
 take_below zero l j = omega arith

@@ -1,16 +1,13 @@
 -- Weighing with capped weights, rule by rule and round by round.
-use Rattle.std.proofs.Common.{◌≡◌, ℕ, zero, suc, ◌+◌, ◌-◌, ◌*◌, ◌<◌, ◌≤◌, Bool, true, false, cond, not, ◌&&◌, eqb, ◌≢◌, List, length, get_or, set, replicate, Some, None, Option, sym, refl, ap, ◌∙◌, subst, ap₂, mul-le-mul_left, add-one, arith, length-set, get_or-set_other, get_or-set_same}
-use native.Mathlib.Decide.{ℕ_discrete, dec_lt}
+use Rattle.std.proofs.Common.{◌≡◌, ℕ, zero, suc, ◌+◌, ◌<◌, Bool, true, false, cond, not, ◌&&◌, eqb, List, length, get_or, set, replicate, Some, None, Option, sym, refl, ap, ◌∙◌, subst, ap₂, add-one, arith, length-set, get_or-set_other, get_or-set_same}
+use native.Mathlib.Decide.{ℕ_discrete}
 use lib.ListN.{get_or-replicate}
 use Rattle.std.proofs.lemmas.Bool.Decides.{nat_tests}
-use Rattle.question.specs.Runs.{Word, Rule, rule}
-use Rattle.question.specs.Rises.{height}
+use Rattle.std.specs.Option.{option_cmp}
+use Rattle.std.specs.Ordering.{ord_max, nat_cmp}
+use Rattle.question.specs.Runs.{Rule, rule}
 use Rattle.question.specs.Rounds.{larger, largest_below, plus, Over, adds, by_rule, one_more, heaviest}
-use Rattle.question.specs.Rows.{held}
-use Rattle.question.specs.Rules.{rule_of, rules_of}
-use Rattle.question.specs.Weighing.{cap, capped, Shows}
-use Rattle.question.specs.declared.rule.Rule.{Rule as Held}
-use Rattle.question.proofs.Coded.{rule_at}
+use Rattle.question.specs.Weighing.{capped, Shows}
 
 -- Capped weights.
 
@@ -18,6 +15,13 @@ capped_larger : (a b : Option ℕ) → capped (larger a b) ≡ larger (capped a)
 capped_larger None b = refl
 capped_larger (Some m) None = refl
 capped_larger (Some m) (Some n) = ap Some (omega arith)
+
+-- The library's larger one of two weights.
+pub max_larger : (a b : Option ℕ) → ord_max (option_cmp nat_cmp) a b ≡ larger a b
+max_larger None None = refl
+max_larger None (Some n) = refl
+max_larger (Some m) None = refl
+max_larger (Some m) (Some n) = grind arith
 
 larger_none : (a : Option ℕ) → larger a None ≡ a
 larger_none None = refl
@@ -36,23 +40,11 @@ capped_over None h = h
 capped_over (Some w) h = omega arith
 
 -- A height above the limit makes the whole weight so.
-cap_height : (n h l : ℕ) → cap ((1 + n) * (1 + cap h) + l) ≡ cap ((1 + n) * (1 + h) + l)
-cap_height n h l = by (dec_lt 12 h)
-  where
-    by : Dec (12 < h) → cap ((1 + n) * (1 + cap h) + l) ≡ cap ((1 + n) * (1 + h) + l)
-    by (yes high) =
-        let many : (1 + n) * 13 ≤ (1 + n) * (1 + h) = mul-le-mul_left (1 + n) (omega arith) in
-        let is : 1 + cap h ≡ 13 = omega arith in
-        rw is (omega arith)
-    by (no low) = let is : cap h ≡ h = omega arith in rw is refl
 
 -- The rises that begin with rule number k.
 module _ (rules : List Rule) (n k : ℕ) where
   by_rule_shut : (f : ℕ → Option ℕ) (p : ℕ) → ((rule rules k).from ≡ p → (rule rules k).to ≡ p) → by_rule rules n f p k ≡ None
   by_rule_shut f p h = let test : (eqb (rule rules k).from p && not (eqb (rule rules k).to p)) ≡ false = grind (arith, nat_tests) in rw test refl
-
-  by_rule_open : (f : ℕ → Option ℕ) → (rule rules k).from ≢ (rule rules k).to → by_rule rules n f (rule rules k).from k ≡ plus (adds rules n k) (f (rule rules k).to)
-  by_rule_open f h = let test : (eqb (rule rules k).from (rule rules k).from && not (eqb (rule rules k).to (rule rules k).from)) ≡ true = grind (arith, nat_tests) in rw test refl
 
   by_rule_rest : (f : ℕ → Option ℕ) (p : ℕ) (rest : Option ℕ) → rest ≡ capped (f (rule rules k).to) → capped (by_rule rules n (λ _. rest) p k) ≡ capped (by_rule rules n f p k)
   by_rule_rest f p rest e = by (eqb (rule rules k).from p && not (eqb (rule rules k).to p))
@@ -60,25 +52,6 @@ module _ (rules : List Rule) (n k : ℕ) where
       by : (b : Bool) → capped (cond b (plus (adds rules n k) rest) None) ≡ capped (cond b (plus (adds rules n k) (f (rule rules k).to)) None)
       by true = ap (λ o. capped (plus (adds rules n k) o)) e ∙ capped_plus (adds rules n k) (f (rule rules k).to)
       by false = refl
-
--- In the code that rule is r.
-module _ (rules : List Held) (k : ℕ) (r : Held) (listed : k < length rules) (is : r ≡ get_or rules k r) (n : ℕ) where
-  at : rule (rules_of rules) k ≡ rule_of r
-  at = rule_at rules k r listed is
-
-  -- h is the height, v the left side.
-  pub adds_by : (h m : ℕ) (v : Word) → h ≡ cap (height (rules_of rules) r.from) → v ≡ held r.left → m ≡ cap ((1 + n) * (1 + h) + (length v - 1)) → m ≡ cap (adds (rules_of rules) n k)
-  adds_by h m v high left e = e ∙ rw (at, high, left) (cap_height n (height (rules_of rules) r.from) (length (held r.left) - 1))
-
-  pub by_staying : (o : Option ℕ) → r.from ≡ r.to → None ≡ capped (by_rule (rules_of rules) n (λ _. o) (rule (rules_of rules) k).from k)
-  by_staying o e = ap capped (sym (by_rule_shut (rules_of rules) n k (λ _. o) _ (λ _. sym (ap (λ x. x.from) at ∙ e ∙ sym (ap (λ x. x.to) at)))))
-
-  pub by_changing : (o : Option ℕ) (w a m : ℕ) → r.from ≢ r.to → o ≡ Some w → a ≡ cap (adds (rules_of rules) n k) → m ≡ cap (a + w) →
-      Some m ≡ capped (by_rule (rules_of rules) n (λ _. o) (rule (rules_of rules) k).from k)
-  by_changing o w a m changes was more e =
-      let same : m ≡ cap (adds (rules_of rules) n k + w) = omega arith in
-      ap Some same ∙ ap (λ x. capped (plus (adds (rules_of rules) n k) x)) (sym was)
-      ∙ ap capped (sym (by_rule_open (rules_of rules) n k (λ _. o) (λ i. changes (sym (ap (λ x. x.from) at) ∙ i ∙ ap (λ x. x.to) at))))
 
 -- A round.
 module _ (rules : List Rule) (n : ℕ) (f : ℕ → Option ℕ) where

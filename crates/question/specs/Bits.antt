@@ -1,12 +1,12 @@
 -- The bits of a climb in a list: the number of a bit is its place, and there are as many as the climb weighs.
-use Rattle.std.specs.Prelude.{◌≡◌, ℕ, suc, ◌-◌, ◌≤◌, Bool, cond, ◌&&◌, List, [], ◌∷◌, ◌++◌, map, length, take, Option, ◌==◌}
+use Rattle.std.specs.Prelude.{◌≡◌, ℕ, suc, ◌-◌, ◌≤◌, Bool, cond, ◌&&◌, List, [], ◌∷◌, ◌++◌, map, length, take, Result, ◌==◌}
 use Rattle.std.specs.List.{flat_map}
 use Rattle.std.specs.Str.{bytes_eq}
 use Rattle.question.specs.Lists.{In, numbers, between}
 use Rattle.question.specs.Runs.{Word, Rule, Climb}
 use Rattle.question.specs.Rises.{beginnings, begun, changing, stage, weight, weight_limit}
 use Rattle.question.specs.Rows.{held}
-use Rattle.question.specs.Fews.{listed, Becomes}
+use Rattle.question.specs.Fews.{Becomes}
 use Rattle.question.specs.Horns.{Bit, bit}
 use Rattle.question.specs.declared.bits.Bits.{Bits}
 use Rattle.question.specs.declared.bits.Slot.{Slot}
@@ -26,10 +26,10 @@ bit_of s = bit s.at s.goal (held s.begun)
 
 -- The bits of a table of the code.
 abbrev pub bits_of : Bits → List Bit
-bits_of table = map bit_of (listed table.slots)
+bits_of table = map bit_of table.slots.items
 
 -- The bits bs were put at the end of a table, or there is no room for them.
-abbrev pub Puts : {U : Type 0} → List Bit → Bits → Option U → Bits → Type 0
+abbrev pub Puts : {T E : Type 0} → List Bit → Bits → Result T E → Bits → Type 0
 Puts bs before r after = Becomes 11 (bits_of before ++ bs) r (bits_of after)
 
 -- The list has the bits that are met while the left side l is read.

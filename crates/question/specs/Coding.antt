@@ -1,5 +1,5 @@
 -- Clauses over the numbers of bits, and the clauses over bits that they stand for.
-use Rattle.std.specs.Prelude.{◌≡◌, ℕ, ◌+◌, ◌<◌, ◌≤◌, ◌↔◌, List, [], ◌∷◌, ◌++◌, length, Option}
+use Rattle.std.specs.Prelude.{◌≡◌, ℕ, suc, ◌+◌, ◌<◌, ◌≤◌, ◌↔◌, List, [], ◌∷◌, ◌++◌, map, length, Option, Some, None}
 use Rattle.question.specs.Lists.{In}
 use Rattle.question.specs.Runs.{Word, Rule, Climb}
 use Rattle.question.specs.Supply.{supplied_by, Fits}
@@ -7,7 +7,6 @@ use Rattle.question.specs.Horns.{Bit, Horn}
 use Rattle.question.specs.Bits.{place, bits_of, Tabled}
 use Rattle.question.specs.Rules.{rules_of, Climbing}
 use Rattle.question.specs.Accepts.{Has, body_word, Accepts}
-use Rattle.question.specs.Fews.{listed}
 use Rattle.question.specs.declared.bits.Bits.{Bits}
 use Rattle.question.specs.declared.clause.Clause.{Clause}
 use Rattle.question.specs.declared.compile.Clauses.{Clauses}
@@ -23,9 +22,18 @@ pub record Ready (table : Bits) (rules : List Held) (climb : Climb) (suppliers :
   pub each : length suppliers ≡ length climb
   pub tabled : Tabled (rules_of rules) climb table
 
+-- The number of a supplier of the code: 0 for the pool, and suc j for rule j.
+abbrev pub supplier_of : Option ℕ → ℕ
+supplier_of None = 0
+supplier_of (Some j) = suc j
+
+-- The same, of each.
+abbrev pub suppliers_of : List (Option ℕ) → List ℕ
+suppliers_of suppliers = map supplier_of suppliers
+
 -- The clauses that a value of the code holds.
 abbrev pub clauses_of : Clauses → List Clause
-clauses_of cs = listed cs.items
+clauses_of cs = cs.items.items
 
 -- The bits are those of `all`, and the number of a bit is its place there.
 module _ (all : List Bit) where

@@ -1,5 +1,5 @@
 -- What a verdict of the code says, and what it leaves in the workspace.
-use Rattle.std.specs.Prelude.{◌≡◌, ℕ, ◌<◌, ◌≢◌, ◌⊎◌, List, [], length, drop, Option, MatchOption, slice_index}
+use Rattle.std.specs.Prelude.{◌≡◌, ℕ, ◌<◌, ◌≤◌, ◌≢◌, List, [], length, drop, Result, Ok, Err, slice_index}
 use Rattle.question.specs.Orders.{NeverFalls}
 use Rattle.question.specs.Rises.{Heavy}
 use Rattle.question.specs.Runs.{Word, Rule}
@@ -7,6 +7,8 @@ use Rattle.question.specs.Search.{climb_of}
 use Rattle.question.specs.Verdicts as v
 use Rattle.question.specs.declared.verdict.Verdict.{Verdict}
 use Rattle.question.specs.declared.verdict.Verdict.TheVariants.{Out, In, TooHeavy}
+use Rattle.question.specs.declared.verdict.Unjudged.{Unjudged}
+use Rattle.question.specs.declared.verdict.Unjudged.TheVariants.{TooManyRules, TooFewCells}
 
 -- The verdict that a verdict of the code stands for.
 abbrev pub verdict_of : Verdict → v.Verdict
@@ -35,7 +37,8 @@ pub record Ruled (size : ℕ) (above : ℕ → ℕ → Type 0) (P : Word → Typ
   pub judged : NeverFalls size above rules → Judged P rules stage goal (verdict_of verdict)
   pub cells : Leaves verdict before after
 
--- The answer for any rules and any workspace: none if there are too many rules or too few cells.
-abbrev pub Answered : ℕ → (ℕ → ℕ → Type 0) → (Word → Type 0) → List Rule → ℕ → ℕ → List ℕ → Option Verdict → List ℕ → Type 0
-Answered size above P rules stage goal before r after =
-    MatchOption r (((32 < length rules) ⊎ (length before < 32768)) × (after ≡ before)) (λ verdict. Ruled size above P rules stage goal before verdict after)
+-- The answer for any rules and any workspace. The rules are counted before the cells.
+abbrev pub Answered : ℕ → (ℕ → ℕ → Type 0) → (Word → Type 0) → List Rule → ℕ → ℕ → List ℕ → Result Verdict Unjudged → List ℕ → Type 0
+Answered size above P rules stage goal before (Ok verdict) after = (length rules ≤ 32) × (32768 ≤ length before) × Ruled size above P rules stage goal before verdict after
+Answered size above P rules stage goal before (Err TooManyRules) after = (32 < length rules) × (after ≡ before)
+Answered size above P rules stage goal before (Err TooFewCells) after = (length rules ≤ 32) × (length before < 32768) × (after ≡ before)

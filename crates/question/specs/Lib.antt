@@ -19,6 +19,7 @@ pub mod Rules
 pub mod Horns
 pub mod Bits
 pub mod Coding
+pub mod Plans
 pub mod Weighing
 pub mod Search
 pub mod Ways

@@ -2,7 +2,7 @@
 --
 -- A mark is a set of bits below 2048. The table has a row of 16 cells for each mark: the mark of a·x stands
 -- in row `mark of x`, at the symbol a.
-use Rattle.std.specs.Prelude.{ℕ, ◌+◌, ◌*◌, ◌<◌, ◌≤◌, ◌↔◌, List, [], ◌∷◌, length, slice_index}
+use Rattle.std.specs.Prelude.{◌≡◌, ℕ, ◌+◌, ◌*◌, ◌<◌, ◌≤◌, ◌↔◌, List, [], ◌∷◌, length, slice_index}
 use Rattle.model.specs.Symbols.{Symbols}
 use Rattle.question.specs.Accepts.{Has, Accepts}
 use Rattle.question.specs.declared.clause.Clause.{Clause}
@@ -30,6 +30,10 @@ pub record Saturated (cs : List Clause) (t : List ℕ) (first : ℕ) : Type 0 wh
   pub rows : Rows t
   pub mark : first < 2048
   pub decided : Decided cs t first
+
+-- each number below 2048 has a place in xs, which `at` says
+abbrev pub Placed : List ℕ → List ℕ → Type 0
+Placed at xs = (k : ℕ) → k < 2048 → (slice_index at k < 2048) × (slice_index xs (slice_index at k) ≡ k)
 
 -- each bit of s is in m
 abbrev pub Within : ℕ → ℕ → Type 0

@@ -1,7 +1,6 @@
 -- What rules and rows of the code stand for.
 use Rattle.std.specs.Prelude.{ℕ, ◌<◌, ◌≤◌, List, map, length, slice_index}
 use Rattle.question.specs.Runs.{Word, Rule, Climb}
-use Rattle.model.specs.Symbols.{Symbols}
 use Rattle.question.specs.Rows.{held}
 use Rattle.question.specs.declared.row.Row.{Row}
 use Rattle.question.specs.declared.rule.Rule.{Rule as Held}
@@ -13,10 +12,6 @@ rule_of r = record { from = r.from; left = held r.left; to = r.to; right = held 
 -- The same, of each.
 abbrev pub rules_of : List Held → List Rule
 rules_of rules = map rule_of rules
-
--- A side of a rule has at most four symbols.
-abbrev pub Side : Word → Type 0
-Side w = (length w ≤ 4) × Symbols w
 
 -- The words that rows hold.
 abbrev pub words_of : List (Row 4) → List Word

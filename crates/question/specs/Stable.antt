@@ -1,8 +1,9 @@
 -- When a table is right: it claims nothing that does not follow, and nothing is left to add.
-use Rattle.std.specs.Prelude.{◌≡◌, ℕ, ◌-◌, ◌<◌, ◌≤◌, Bool, true, false, ◌⊎◌, List, [], ◌∷◌, drop, Some, None, sum_by, Option}
+use Rattle.std.specs.Prelude.{◌≡◌, ℕ, ◌-◌, ◌<◌, ◌≤◌, Bool, true, false, ◌⊎◌, List, [], ◌∷◌, Some, None, sum_by, Option}
 use Rattle.question.specs.Accepts.{Has, Stands, body_word, Accepts}
-use Rattle.question.specs.Marks.{Rows, cell_of, read_from, Within}
+use Rattle.question.specs.Marks.{cell_of, read_from, Within}
 use Rattle.question.specs.declared.clause.Clause.{Clause}
+use Rattle.question.specs.declared.table.Table.{Table}
 
 -- every bit of the mark m accepts x
 abbrev pub TrueOf : List Clause → ℕ → List ℕ → Type 0
@@ -53,7 +54,6 @@ pub record Stable (cs : List Clause) (t : List ℕ) (first : ℕ) (Seen : ℕ �
 -- what one clause, read at the mark `from`, makes of a value
 pub record Grown (t : List ℕ) (c : Clause) (from old new : ℕ) : Type 0 where
   pub more : old ≤ new
-  pub below : new < 2048
   pub right : (b : ℕ) → Has new b → Has old b ⊎ ((b ≡ c.head) × Holds t c from)
   pub settled : Holds t c from → Has new c.head
 
@@ -61,18 +61,21 @@ pub record Grown (t : List ℕ) (c : Clause) (from old new : ℕ) : Type 0 where
 abbrev pub room : List ℕ → ℕ
 room t = sum_by (λ v. 2047 - v) t
 
--- from the table t to t': `changed` says whether a cell gained a bit, and `Given` which clauses give what was gained
-pub record Turn (Given : List Clause → Type 0) (t t' : List ℕ) (changed : Bool) : Type 0 where
-  pub rows : Rows t'
-  pub sound : (cs : List Clause) → Given cs → Sound cs t → Sound cs t'
-  pub rest : drop 32768 t' ≡ drop 32768 t
-  pub falls : changed ≡ true → room t' < room t
-  pub stays : changed ≡ false → t' ≡ t
+-- the cells that a table borrows
+abbrev pub cells_of : Table → List ℕ
+cells_of t = t.cells.now
+
+-- from the table t to t', which borrows the same cells: `changed` says whether a cell gained a bit, and `Given` which clauses
+-- give what was gained
+pub record Turn (Given : List Clause → Type 0) (t t' : Table) (changed : Bool) : Type 0 where
+  pub same : t'.cells.ghost_name ≡ t.cells.ghost_name
+  pub sound : (cs : List Clause) → Given cs → Sound cs (cells_of t) → Sound cs (cells_of t')
+  pub falls : changed ≡ true → room (cells_of t') < room (cells_of t)
+  pub stays : changed ≡ false → cells_of t' ≡ cells_of t
 
 -- the mark of the empty word grows from `old` to `new`, and `Given` says which clauses give what it gains
 pub record Started (Given : List Clause → Type 0) (t : List ℕ) (old new : ℕ) : Type 0 where
   pub more : old ≤ new
-  pub below : new < 2048
   pub sound : (cs : List Clause) → Given cs → Sound cs t → TrueOf cs old [] → TrueOf cs new []
 
 -- a clause with no symbol adds to the mark of the empty word, and the others do not

@@ -1,22 +1,20 @@
 //! The bits of a climb.
-ghost use Rattle.std.specs.Prelude.{◌≡◌, ◌<◌, [], ◌∷◌, map, MatchOption};
+ghost use Rattle.std.specs.Prelude.{◌≡◌, ◌<◌, ◌≤◌, [], ◌∷◌, length, MatchResult};
 ghost use Rattle.std.specs.List.{flat_map};
 ghost use Rattle.question.specs.Lists.{In};
-ghost use Rattle.question.specs.Rises.{beginnings, weight, weight_limit};
+ghost use Rattle.question.specs.Rises.{weight, weight_limit};
 ghost use Rattle.question.specs.Rises.{begun as begun_at};
 ghost use Rattle.question.specs.Rows.{held};
 ghost use Rattle.question.specs.Rules.{rules_of, words_of, Climbing};
 ghost use Rattle.question.specs.Horns.{bit};
-ghost use Rattle.question.specs.Bits.{same_bit, place, bit_of, bits_of, Puts, bits_for, Tabled};
-ghost use Rattle.question.specs.Coding.{SetOf};
 
-use crate::begun::{LIMIT, beginning, begun, holds};
-use crate::few::Few;
+use crate::begun::{LIMIT, TooHeavy, beginnings, begun, holds};
 use crate::row::Row;
 use crate::rule::{Rule, changing};
+use arrayvec::ArrayVec;
 
 /// The bit of rule `goal` of a climb, at the stage before rule `at`, once `begun` is read.
-#[derive(Clone, Copy)]
+#[derive(Clone, Copy, Default)]
 pub(crate) struct Slot {
     at: u8,
     goal: u8,
@@ -26,10 +24,13 @@ pub(crate) struct Slot {
 /// The bits of a climb that is not too heavy. The number of a bit is its place.
 #[derive(Drop)]
 pub(crate) struct Bits {
-    slots: Few<Slot, LIMIT>,
+    slots: ArrayVec<Slot, LIMIT>,
+    ghost short: { length slots.items ≤ 11 },
 }
 
 impl Slot {
+    ghost use Rattle.question.specs.Bits.{same_bit, bit_of};
+
     /// Whether this is that bit.
     fn is(&self, at: u8, goal: u8, begun: &[u8]) -> bool
         ensures { result ≡ same_bit (bit at goal begun.now) (bit_of self.now) }
@@ -39,26 +40,24 @@ impl Slot {
 }
 
 impl Bits {
-    /// The bits of a climb; `None` if it is too heavy.
-    pub(crate) fn of(rules: &[Rule], climb: &[u8]) -> Option<Bits>
+    ghost use Rattle.question.specs.Bits.{place, bits_of, Puts, bits_for, Tabled};
+    ghost use Rattle.question.specs.Coding.{SetOf};
+
+    /// The bits of a climb, if it is not too heavy.
+    pub(crate) fn of(rules: &[Rule], climb: &[u8]) -> Result<Bits, TooHeavy>
         requires { Climbing rules.now climb.now }
-        ensures { MatchOption result (weight_limit < weight (rules_of rules.now) climb.now) (Tabled (rules_of rules.now) climb.now) }
+        ensures { MatchResult result (Tabled (rules_of rules.now) climb.now) (λ _. weight_limit < weight (rules_of rules.now) climb.now) }
     {
-        let blank = Slot {
-            at: 0,
-            goal: 0,
-            begun: Row::empty(),
-        };
         let mut table = Bits {
-            slots: Few::new(blank),
+            slots: ArrayVec::new(),
         };
         let n = climb.len() as u8;
         for i in 0..n {
             let rule = changing(rules, climb, i);
             table.put_stage(rules, rule.from, i, n)?;
-            table.put_left(i, &rule.left)?;
+            table.put_words(i, i + 1, beginnings(&rule.left).as_slice())?;
         }
-        Some(table)
+        Ok(table)
     }
 
     /// The number of a bit of the climb.
@@ -68,12 +67,8 @@ impl Bits {
         ensures below { result < 11 }
     {
         let slots = self.slots.as_slice();
-        for (i, slot) in slots.iter().enumerate() {
-            if slot.is(at, goal, begun) {
-                return i as u8;
-            }
-        }
-        unreachable()
+        let place = slots.iter().position(|slot| slot.is(at, goal, begun));
+        place.unwrap() as u8
     }
 
     /// The set of one bit of the climb.
@@ -85,51 +80,40 @@ impl Bits {
     }
 
     /// Adds the bits with nothing read, and with what the stage's staying rules begin to read.
-    fn put_stage(&mut self, rules: &[Rule], stage: u8, at: u8, n: u8) -> Option<()>
+    fn put_stage(&mut self, rules: &[Rule], stage: u8, at: u8, n: u8) -> Result<(), TooHeavy>
         requires { at < n }
         ensures { Puts (flat_map (bits_for at n) ([] ∷ begun_at (rules_of rules.now) stage)) self.old result self.new }
     {
         let words = begun(rules, stage)?;
-        self.put_goals(at, n, &Row::empty())?;
-        self.put_words(at, n, words.as_slice())?;
-        Some(())
+        self.put_goals(at, n, &Row::default())?;
+        self.put_words(at, n, words.as_slice())
     }
 
     /// Adds the bits with each of the words read.
-    fn put_words(&mut self, at: u8, n: u8, words: &[Row<4>]) -> Option<()>
+    fn put_words(&mut self, at: u8, n: u8, words: &[Row<4>]) -> Result<(), TooHeavy>
         ensures { Puts (flat_map (bits_for at n) (words_of words.now)) self.old result self.new }
     {
         for word in words {
             self.put_goals(at, n, word)?;
         }
-        Some(())
+        Ok(())
     }
 
     /// Adds the bits of the rules before the `n`-th with the word read.
-    fn put_goals(&mut self, at: u8, n: u8, word: &Row<4>) -> Option<()>
+    fn put_goals(&mut self, at: u8, n: u8, word: &Row<4>) -> Result<(), TooHeavy>
         ensures { Puts (bits_for at n (held word.now)) self.old result self.new }
     {
         for goal in at..n {
             self.put(at, goal, *word)?;
         }
-        Some(())
+        Ok(())
     }
 
-    /// Adds the bits of rule `j` with the beginnings of its left side read.
-    fn put_left(&mut self, j: u8, left: &Row<4>) -> Option<()>
-        ensures { Puts (map (bit j j) (beginnings (held left.now))) self.old result self.new }
-    {
-        for m in 1..left.word().len() {
-            self.put(j, j, beginning(left, m))?;
-        }
-        Some(())
-    }
-
-    /// Adds a bit; `None` if there is no room for it.
-    fn put(&mut self, at: u8, goal: u8, begun: Row<4>) -> Option<()>
+    /// Adds a bit, if there is room for it.
+    fn put(&mut self, at: u8, goal: u8, begun: Row<4>) -> Result<(), TooHeavy>
         ensures { Puts (bit at goal (held begun) ∷ []) self.old result self.new }
     {
-        self.slots.offer(Slot { at, goal, begun })?;
-        Some(())
+        self.slots.try_push(Slot { at, goal, begun })?;
+        Ok(())
     }
 }

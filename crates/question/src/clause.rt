@@ -15,3 +15,14 @@ pub(crate) struct Clause {
     ghost bit: { head < 11 },
     ghost letter: { unwrap_or symbol 0 < 16 },
 }
+
+impl Default for Clause {
+    fn default() -> Clause {
+        Clause {
+            head: 0,
+            symbol: None,
+            word: Row::default(),
+            body: 0,
+        }
+    }
+}

@@ -1,29 +1,35 @@
 //! The marks that are reached, in their order.
-ghost use Rattle.std.specs.Prelude.{◌≡◌, ◌<◌};
-ghost use Rattle.question.specs.Marks.{Rows};
-ghost use Rattle.question.specs.Walks.{Listed, Extends, SeenIn, RowSeen};
+ghost use Rattle.std.specs.Prelude.{◌≡◌, ◌<◌, ◌≤◌, length, slice_index, MatchOption};
+ghost use Rattle.question.specs.Marks.{Placed};
 
-use super::mark::next;
+use super::mark::Mark;
+use super::table::{SYMBOLS, Table};
 use model::sieve::MARKS;
 
 /// All marks: first the `len` that are reached, in the order in which they were, and then the others. `place` says where
 /// in `list` a mark stands.
 #[derive(Drop)]
 pub(crate) struct Reached {
-    pub list: [u16; 2048],
-    pub place: [u16; 2048],
-    pub len: u16,
+    list: [u16; MARKS],
+    place: [u16; MARKS],
+    len: u16,
+    ghost long: { (length list ≡ 2048) × (length place ≡ 2048) },
+    ghost short: { len ≤ 2048 },
+    ghost marks: { Placed place list },
+    ghost places: { Placed list place },
 }
 
 impl Reached {
+    ghost use Rattle.question.specs.Stable.{cells_of};
+    ghost use Rattle.question.specs.Walks.{Extends, SeenIn, RowSeen};
+
     /// No mark is reached.
-    pub(crate) fn none() -> Reached
-        ensures listed { Listed result }
-        ensures none { result.len ≡ 0 }
+    pub(crate) fn new() -> Reached
+        ensures { result.len ≡ 0 }
     {
         let mut list = [0; MARKS];
-        for i in 0..MARKS {
-            list[i] = i as u16;
+        for (i, mark) in list.iter_mut().enumerate() {
+            *mark = i as u16;
         }
         Reached {
             list,
@@ -34,44 +40,47 @@ impl Reached {
 
     /// No mark is reached any more.
     pub(crate) fn clear(&mut self)
-        requires { Listed self.old }
-        ensures listed { Listed self.new }
-        ensures none { self.new.len ≡ 0 }
+        ensures { self.new.len ≡ 0 }
     {
         self.len = 0;
     }
 
-    /// Adds the mark, unless it is there.
-    pub(crate) fn add(&mut self, mark: u16)
-        requires listed { Listed self.old }
-        requires mark { mark < 2048 }
-        ensures listed { Listed self.new }
-        ensures extends { Extends self.old self.new }
-        ensures seen { SeenIn self.new mark }
+    /// The mark that stands at `i` in the list.
+    pub(crate) fn get(&self, i: u16) -> Option<Mark>
+        ensures { MatchOption result (self.now.len ≤ i) (λ mark. (i < self.now.len) × (mark.bits ≡ slice_index self.now.list i)) }
     {
-        let place = self.place[mark as usize];
-        if place < self.len {
+        if i >= self.len {
+            return None;
+        }
+        Some(Mark {
+            bits: self.list[usize::from(i)],
+        })
+    }
+
+    /// Adds the mark, unless it is there.
+    pub(crate) fn add(&mut self, mark: Mark)
+        ensures extends { Extends self.old self.new }
+        ensures seen { SeenIn self.new mark.bits }
+    {
+        let bits = usize::from(mark.bits);
+        let place = usize::from(self.place[bits]);
+        let end = usize::from(self.len);
+        if place < end {
             return;
         }
-        let other = self.list[self.len as usize];
-        self.list[place as usize] = other;
-        self.place[other as usize] = place;
-        self.list[self.len as usize] = mark;
-        self.place[mark as usize] = self.len;
+        let other = usize::from(self.list[end]);
+        self.list.swap(place, end);
+        self.place.swap(bits, other);
         self.len += 1;
     }
 
     /// Adds the marks that the row of `mark` leads to.
-    pub(crate) fn add_row(&mut self, table: &[u16], mark: u16)
-        requires listed { Listed self.old }
-        requires rows { Rows table.now }
-        requires mark { mark < 2048 }
-        ensures listed { Listed self.new }
+    pub(crate) fn add_row(&mut self, table: &Table<'_>, mark: Mark)
         ensures extends { Extends self.old self.new }
-        ensures seen { RowSeen table.now self.new mark }
+        ensures seen { RowSeen (cells_of table.now) self.new mark.bits }
     {
-        for symbol in 0..16 {
-            self.add(next(table, mark, symbol));
+        for symbol in 0..SYMBOLS {
+            self.add(table.next(mark, symbol));
         }
     }
 }

@@ -1,10 +1,20 @@
 //! A word in a place of fixed size.
-ghost use Rattle.std.specs.Prelude.{◌≡◌, ℕ, ◌-◌, ◌<◌, ◌≤◌, length, drop, replicate, slice_index};
+ghost use Rattle.std.specs.Prelude.{◌≡◌, ℕ, ◌+◌, ◌-◌, ◌<◌, ◌≤◌, ◌++◌, length, drop, replicate, slice_index};
+ghost use Rattle.model.specs.Symbols.{Symbols};
 
-mod methods;
+use model::symbols::all_symbols;
+
+/// Why words make no row and no rule.
+#[derive(Clone, Copy, Debug, Eq, PartialEq)]
+pub enum WordError {
+    /// There is no room for so many bytes.
+    TooLong,
+    /// There is room, but some byte is no symbol.
+    SymbolTooHigh,
+}
 
 /// A word of at most `N` symbols. Places past its end hold 0.
-#[derive(Clone, Copy)]
+#[derive(Clone, Copy, Debug, Eq, PartialEq)]
 pub struct Row<const N: usize> {
     len: u8,
     symbols: [u8; N],
@@ -12,4 +22,88 @@ pub struct Row<const N: usize> {
     ghost wide: { length symbols ≡ N },
     ghost below: { (i : ℕ) → slice_index symbols i < 16 },
     ghost blank: { drop len symbols ≡ replicate (N - len) 0 },
+}
+
+impl<const N: usize> Row<N> {
+    ghost use Rattle.question.specs.Rows.{held, Fits, Makes};
+
+    pub fn word(&self) -> &[u8]
+        ensures value { result.now ≡ held self.now }
+        ensures short { length result.now ≤ N }
+        ensures below { Symbols result.now }
+    {
+        &self.symbols[..self.len as usize]
+    }
+
+    /// The row's word with `word` after it.
+    pub(crate) fn followed_by(&self, word: &[u8]) -> Row<N>
+        requires fits { (length (held self.now) + length word.now ≤ N) × (N ≤ 255) }
+        requires symbols { Symbols word.now }
+        ensures { held result ≡ held self.now ++ word.now }
+    {
+        let start = self.len as usize;
+        let end = start + word.len();
+        let mut symbols = self.symbols;
+        let places = &mut symbols[..];
+        places[start..end].copy_from_slice(word);
+        Row {
+            len: end as u8,
+            symbols,
+        }
+    }
+
+    /// The two words in a row, one after the other, if it has room for them and each byte is a symbol.
+    pub fn joined(front: &[u8], back: &[u8]) -> Result<Row<N>, WordError>
+        ensures { Makes (Fits N (length front.now + length back.now)) (Symbols front.now × Symbols back.now) (λ row. held row ≡ front.now ++ back.now) result }
+    {
+        if N > 255 || front.len() + back.len() > N {
+            return Err(WordError::TooLong);
+        }
+        if !all_symbols(front) || !all_symbols(back) {
+            return Err(WordError::SymbolTooHigh);
+        }
+        Ok(Row::of(front).followed_by(back))
+    }
+
+    pub(crate) fn of(word: &[u8]) -> Row<N>
+        requires fits { (length word.now ≤ N) × (N ≤ 255) }
+        requires symbols { Symbols word.now }
+        ensures { held result ≡ word.now }
+    {
+        Row::default().followed_by(word)
+    }
+}
+
+impl<const N: usize> Default for Row<N> {
+    ghost use Rattle.std.specs.Prelude.{◌≡◌, []};
+    ghost use Rattle.question.specs.Rows.{held};
+
+    ghost is_default = { λ row. held row ≡ [] };
+
+    /// The empty word.
+    fn default() -> Row<N> {
+        Row {
+            len: 0,
+            symbols: [0; N],
+        }
+    }
+}
+
+impl<const N: usize> TryFrom<&[u8]> for Row<N> {
+    type Error = WordError;
+
+    ghost use Rattle.question.specs.Rows.{held, Fits, Makes};
+
+    ghost try_from_gives = { λ word r. Makes (Fits N (length word.now)) (Symbols word.now) (λ row. held row ≡ word.now) r };
+
+    /// The word in a row, if it has room for it and each byte is a symbol.
+    fn try_from(word: &[u8]) -> Result<Row<N>, WordError> {
+        if N > 255 || word.len() > N {
+            return Err(WordError::TooLong);
+        }
+        if !all_symbols(word) {
+            return Err(WordError::SymbolTooHigh);
+        }
+        Ok(Row::of(word))
+    }
 }

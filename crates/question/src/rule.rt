@@ -1,13 +1,18 @@
 //! The rules of a session.
-ghost use Rattle.std.specs.Prelude.{◌≡◌, ◌<◌, length, MatchOption, slice_index};
+ghost use Rattle.std.specs.Prelude.{◌≡◌, ◌<◌, ◌≤◌, length, slice_index};
+ghost use Rattle.model.specs.Symbols.{Symbols};
 ghost use Rattle.question.specs.Rises.{stays_at};
 ghost use Rattle.question.specs.Rises.{changing as changing_at};
-ghost use Rattle.question.specs.Rules.{Side, rule_of, rules_of};
+ghost use Rattle.question.specs.Rows.{Makes};
+ghost use Rattle.question.specs.Rules.{rule_of, rules_of};
 
-use crate::row::Row;
+use crate::row::{Row, WordError};
+
+/// So many symbols go into a side of a rule.
+const SIDE: usize = 4;
 
 /// At stage `from`, a word that begins with `left` gives the word with `right` in its place, and the stage becomes `to`.
-#[derive(Clone, Copy)]
+#[derive(Clone, Copy, Debug, Default, Eq, PartialEq)]
 pub struct Rule {
     pub from: u8,
     pub left: Row<4>,
@@ -17,14 +22,18 @@ pub struct Rule {
 
 impl Rule {
     /// The rule with these sides, if each has at most four bytes and each byte is a symbol.
-    pub fn new(from: u8, left: &[u8], to: u8, right: &[u8]) -> Option<Rule>
-        ensures { MatchOption result (Side left.now × Side right.now → ⊥) (λ rule. rule_of rule ≡ record { from = from; left = left.now; to = to; right = right.now }) }
+    pub fn new(from: u8, left: &[u8], to: u8, right: &[u8]) -> Result<Rule, WordError>
+        ensures { Makes ((length left.now ≤ 4) × (length right.now ≤ 4)) (Symbols left.now × Symbols right.now) (λ rule. rule_of rule ≡ record { from = from; left = left.now; to = to; right = right.now }) result }
     {
-        Some(Rule {
+        // The lengths of both sides are judged before the symbols of either.
+        if right.len() > SIDE {
+            return Err(WordError::TooLong);
+        }
+        Ok(Rule {
             from,
-            left: Row::new(left)?,
+            left: Row::try_from(left)?,
             to,
-            right: Row::new(right)?,
+            right: Row::try_from(right)?,
         })
     }
 

@@ -1,26 +1,14 @@
 //! The search for the earliest climb.
-ghost use Rattle.std.specs.Prelude.{◌≡◌, ℕ, ◌<◌, ◌≤◌, List, length, drop, if◌then◌else◌, Decides, MatchOption};
-ghost use Rattle.question.specs.Rises.{Rise};
+ghost use Rattle.std.specs.Prelude.{◌≡◌, ℕ, ◌<◌, ◌≤◌, length, if◌then◌else◌, Decides, MatchOption};
+ghost use Rattle.question.specs.Feasible.{Servable};
 ghost use Rattle.question.specs.Rules.{rule_of, rules_of};
 ghost use Rattle.question.specs.Search.{Changes, Passes, ShortRise, Sought};
 
 use crate::climb::Climb;
+use crate::feasible::feasible;
 use crate::rule::Rule;
-
-/// A question that can be put to a climb.
-pub(crate) trait Feasible {
-    /// the question can be put to the climb
-    ghost ready: { Self → List ℕ → Type 0 };
-
-    /// the climb serves
-    ghost serves: { Self → List ℕ → Type 0 };
-
-    fn is_feasible(&self, work: &mut [u16], climb: &[u8]) -> bool
-        requires ready { ready self.now climb.now }
-        requires room { 32768 ≤ length work.old }
-        ensures decides { Decides result (serves self.now climb.now) }
-        ensures rest { drop 32768 work.new ≡ drop 32768 work.old };
-}
+use crate::table::Cells;
+use model::pools::Pool;
 
 impl Rule {
     /// Whether the rule belongs to the stage and changes it.
@@ -48,26 +36,21 @@ fn next(rules: &[Rule], within: bool, stage: u8, k: u8) -> Option<u8>
         return Some(stage);
     }
     let rule = &rules[k as usize];
-    if !rule.changes_at(stage) {
-        return None;
-    }
-    Some(rule.to)
+    rule.changes_at(stage).then_some(rule.to)
 }
 
-/// The earliest rise of at most four rules from `stage` to `goal` that serves.
-pub(crate) fn earliest<F: Feasible>(
+/// The earliest rise of at most four rules from `stage` to `goal` that is not too heavy and that the pool serves.
+pub(crate) fn earliest<Q: Pool>(
+    pool: &Q,
     rules: &[Rule],
     stage: u8,
     goal: u8,
-    question: &F,
-    work: &mut [u16],
+    cells: &mut Cells,
 ) -> Option<Climb>
-    requires few { length rules.now ≤ 32 }
-    requires room { 32768 ≤ length work.old }
-    requires ready { (c : List ℕ) → Rise (rules_of rules.now) stage c goal → length c ≤ 4 → F.Feasible.ready question.now c }
-    ensures found { Sought (ShortRise (rules_of rules.now) stage goal (F.Feasible.serves question.now)) result }
-    ensures rest { drop 32768 work.new ≡ drop 32768 work.old }
+    requires { length rules.now ≤ 32 }
+    ensures { Sought (ShortRise (rules_of rules.now) stage goal (Servable (rules_of rules.now) (Q.Pool.words pool.now))) result }
 {
+    // Kept as nested loops: the loop at depth k chooses the k-th rule, and the first climb that serves leaves all of them.
     'search: {
         for n in 0..=4 {
             for a in 0..choices(rules, n > 0) {
@@ -90,7 +73,7 @@ pub(crate) fn earliest<F: Feasible>(
                                 continue;
                             }
                             let climb = [a, b, c, d];
-                            if question.is_feasible(work, &climb[0..n as usize]) {
+                            if feasible(pool, rules, &climb[..n as usize], cells) {
                                 break 'search Some(Climb {
                                     rules: climb,
                                     len: n,

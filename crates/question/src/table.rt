@@ -1,76 +1,81 @@
-//! Decides which words the bits of a list of clauses accept, by a table of marks.
-ghost use Rattle.std.specs.Prelude.{◌≡◌, ℕ, ◌<◌, ◌≤◌, false, length, drop, slice_index};
-ghost use Rattle.question.specs.Marks.{Rows, Saturated};
-ghost use Rattle.question.specs.Walks.{Listed, Extends, SeenIn, RowSeen};
-ghost use Rattle.question.specs.Stable.{RowSettled, Turn};
+//! Tables of marks, and words read through them.
+ghost use Rattle.std.specs.Prelude.{◌≡◌, ℕ, ◌+◌, ◌*◌, ◌<◌, ◌≤◌, length, replicate, slice_index, slice_set};
+ghost use Rattle.model.specs.Symbols.{Symbols};
+ghost use Rattle.question.specs.Marks.{cell_of, read_from};
 
-use super::clause::Clause;
-use super::growth::{row, start};
-use super::reached::Reached;
+use super::mark::Mark;
+
+/// A mark has a row of so many cells, one for each symbol.
+pub(crate) const SYMBOLS: u8 = 16;
 
 /// The cells of all marks.
 pub(crate) const CELLS: usize = 32768;
 
-/// Makes each cell of the table 0.
-pub(crate) fn clear(table: &mut [u16])
-    requires { 32768 ≤ length table.old }
-    ensures zeros { (k : ℕ) → k < 32768 → slice_index table.new k ≡ 0 }
-    ensures rest { drop 32768 table.new ≡ drop 32768 table.old }
-{
-    for i in 0..CELLS {
-        table[i] = 0;
-    }
+/// What a table works in.
+pub(crate) type Cells = [u16; CELLS];
+
+/// A table of marks, in cells that are lent.
+#[derive(Drop)]
+pub(crate) struct Table<'a> {
+    cells: &'a mut [u16; CELLS],
+    ghost long: { 32768 ≤ length cells.now },
+    ghost below: { (k : ℕ) → k < 32768 → slice_index cells.now k < 2048 },
 }
 
-/// Brings the row of each mark of the list up to date, and says whether a cell changed. The list grows by the marks that
-/// the rows lead to, so in the end it has every mark that can be reached.
-fn walk(clauses: &[Clause], table: &mut [u16], reached: &mut Reached) -> bool
-    requires rows { Rows table.old }
-    requires listed { Listed reached.old }
-    ensures turn { Turn (◌≡◌ clauses.now) table.old table.new result }
-    ensures listed { Listed reached.new }
-    ensures extends { Extends reached.old reached.new }
-    ensures done { result ≡ false → (m : ℕ) → SeenIn reached.new m → RowSettled clauses.now table.new m × RowSeen table.new reached.new m }
+/// Makes each cell 0.
+pub(crate) fn clear(cells: &mut Cells)
+    ensures { cells.new ≡ replicate 32768 0 }
 {
-    let mut changed = false;
-    let mut i = 0;
-    while i < reached.len {
-        let mark = reached.list[i as usize];
-        changed |= row(clauses, table, mark);
-        reached.add_row(table, mark);
-        i += 1;
-    }
-    changed
+    cells.fill(0);
 }
 
-/// Walks over a table of zeros until nothing changes. The result is the mark of the empty word.
-fn run(clauses: &[Clause], table: &mut [u16]) -> u16
-    requires long { 32768 ≤ length table.old }
-    requires zeros { (k : ℕ) → k < 32768 → slice_index table.old k ≡ 0 }
-    ensures rest { drop 32768 table.new ≡ drop 32768 table.old }
-    ensures saturated { Saturated clauses.now table.new result }
+/// Where the cell of the mark and the symbol is.
+fn place(mark: Mark, symbol: u8) -> usize
+    ensures { result ≡ 16 * mark.bits + symbol }
 {
-    let mut reached = Reached::none();
-    let mut first = 0;
-    loop {
-        let old = first;
-        first = start(clauses, table, old);
-        reached.clear();
-        reached.add(first);
-        let changed = walk(clauses, table, &mut reached);
-        if !changed && first == old {
-            return first;
+    usize::from(SYMBOLS) * usize::from(mark.bits) + usize::from(symbol)
+}
+
+impl<'a> Table<'a> {
+    /// The table of no bits.
+    pub(crate) fn new(cells: &'a mut Cells) -> Table<'a>
+        ensures same { result.cells.ghost_name ≡ cells.entry.ghost_name }
+        ensures blank { result.cells.now ≡ replicate 32768 0 }
+    {
+        clear(cells);
+        Table { cells }
+    }
+
+    // Kept beside the sieve's `next` and `run`: those test each entry again, which would slow every pass over the table.
+    /// The mark that `symbol` leads to from `mark`.
+    pub(crate) fn next(&self, mark: Mark, symbol: u8) -> Mark
+        requires { symbol < 16 }
+        ensures { result.bits ≡ cell_of self.now.cells.now mark.bits symbol }
+    {
+        let cells = &*self.cells;
+        Mark {
+            bits: cells[place(mark, symbol)],
         }
     }
-}
 
-/// Fills the table, and returns the mark of the empty word. For every word of the sixteen symbols, a bit is then in the
-/// word's mark exactly where it accepts the word.
-pub(crate) fn saturate(clauses: &[Clause], table: &mut [u16]) -> u16
-    requires { 32768 ≤ length table.old }
-    ensures rest { drop 32768 table.new ≡ drop 32768 table.old }
-    ensures saturated { Saturated clauses.now table.new result }
-{
-    clear(table);
-    run(clauses, table)
+    /// The mark once the word is read, last symbol first, from the mark `from`.
+    pub(crate) fn read(&self, word: &[u8], from: Mark) -> Mark
+        requires { Symbols word.now }
+        ensures { result.bits ≡ read_from self.now.cells.now word.now from.bits }
+    {
+        let mut mark = from;
+        for symbol in word.iter().rev() {
+            mark = self.next(mark, *symbol);
+        }
+        mark
+    }
+
+    /// Makes `to` the mark that `symbol` leads to from `mark`.
+    pub(crate) fn set(&mut self, mark: Mark, symbol: u8, to: Mark)
+        requires { symbol < 16 }
+        ensures same { self.new.cells.ghost_name ≡ self.old.cells.ghost_name }
+        ensures set { self.new.cells.now ≡ slice_set self.old.cells.now (16 * mark.bits + symbol) to.bits }
+    {
+        self.cells[place(mark, symbol)] = to.bits;
+    }
 }

@@ -4,69 +4,49 @@ ghost use Rattle.question.specs.Runs.{rule};
 ghost use Rattle.question.specs.Rises.{Heavy};
 ghost use Rattle.question.specs.Rises.{height as height_at};
 ghost use Rattle.question.specs.Rounds.{by_rule, one_more, Over};
-ghost use Rattle.question.specs.Rounds.{larger as larger_of, adds as adds_at};
+ghost use Rattle.question.specs.Rounds.{adds as adds_at};
 ghost use Rattle.question.specs.Rules.{rules_of};
 ghost use Rattle.question.specs.Weighing.{cap, capped, Shows, NeverLong};
 
-use crate::begun::begun;
+use crate::begun::{LIMIT, begun};
 use crate::rule::Rule;
 
-/// A rise that weighs more is too heavy.
-const LIMIT: u8 = 11;
-
 /// Stands for each weight above the limit.
-const OVER: u8 = LIMIT + 1;
+const OVER: usize = LIMIT + 1;
 
 /// A stage is a byte.
 const STAGES: usize = 256;
 
 /// A weight for each stage that has one.
-type Weights = [Option<u8>; STAGES];
+type Weights = [Option<usize>; STAGES];
 
 /// How many different beginnings the stage's staying rules have, or `OVER`.
-fn height(rules: &[Rule], stage: u8) -> u8
+fn height(rules: &[Rule], stage: u8) -> usize
     ensures { result ≡ cap (height_at (rules_of rules.now) stage) }
 {
-    match begun(rules, stage) {
-        Some(words) => words.as_slice().len() as u8,
-        None => OVER,
-    }
+    begun(rules, stage).map_or(OVER, |words| words.len())
 }
 
 /// What rule `k` adds to the weight of a rise, before `n` more rules, or `OVER`.
-fn adds(rules: &[Rule], k: usize, n: u8) -> u8
+fn adds(rules: &[Rule], k: usize, n: u8) -> usize
     requires { k < length rules.now }
     ensures { result ≡ cap (adds_at (rules_of rules.now) n k) }
 {
     let rule = &rules[k];
-    let high = (1 + n as u16) * (1 + height(rules, rule.from) as u16);
-    let wide = rule.left.word().len() as u16;
-    (high + wide.saturating_sub(1)).min(OVER as u16) as u8
+    let high = (1 + n as usize) * (1 + height(rules, rule.from));
+    let wide = rule.left.word().len();
+    (high + wide.saturating_sub(1)).min(OVER)
 }
 
 /// Whether there is a weight above the limit.
-fn is_over(weight: Option<u8>) -> bool
+fn is_over(weight: Option<usize>) -> bool
     ensures { Decides result (Over weight) }
 {
-    match weight {
-        Some(weight) => weight > LIMIT,
-        None => false,
-    }
-}
-
-/// The larger of two weights, of which either may be missing.
-fn larger(a: Option<u8>, b: Option<u8>) -> Option<u8>
-    ensures { result ≡ larger_of a b }
-{
-    match (a, b) {
-        (Some(x), Some(y)) => Some(x.max(y)),
-        (None, b) => b,
-        (a, None) => a,
-    }
+    weight.is_some_and(|weight| weight > LIMIT)
 }
 
 /// The weight of the heaviest rise that begins with rule `k`, where `rest` is that of the `n` rules after it.
-fn by_rule(rules: &[Rule], k: usize, n: u8, rest: Option<u8>) -> Option<u8>
+fn by_rule(rules: &[Rule], k: usize, n: u8, rest: Option<usize>) -> Option<usize>
     requires { k < length rules.now }
     ensures { result ≡ capped (by_rule (rules_of rules.now) n (λ _. rest) (rule (rules_of rules.now) k).from k) }
 {
@@ -86,7 +66,8 @@ fn one_more(rules: &[Rule], n: u8, weights: &Weights) -> Weights
     for (k, rule) in rules.iter().enumerate() {
         let from = rule.from as usize;
         let rest = weights[rule.to as usize];
-        longer[from] = larger(longer[from], by_rule(rules, k, n, rest));
+        // A weight that is missing comes before each that is not.
+        longer[from] = longer[from].max(by_rule(rules, k, n, rest));
     }
     longer
 }

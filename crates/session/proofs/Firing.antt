@@ -47,7 +47,7 @@ module _ (size : ℕ) (above : ℕ → ℕ → Type 0) (W : Word → Type 0) (L 
       leads = record { listed = listed; from = from; to = refl };
       old = w;
       found = found;
-      makes = record { rest = begins.0; before = begins.1; after = sym (result_is (rule L.rules k) w _ begins.0 refl begins.1) };
+      makes = record { rest = begins.0; before = begins.1; after = sym (result_is (rule L.rules k) w begins.0 begins.1) };
     };
     on = refl;
   }
@@ -68,7 +68,7 @@ module _ (size : ℕ) (above : ℕ → ℕ → Type 0) (W : Word → Type 0) (L 
     begins = sym s.on ∙ s.step.makes.before
 
     is_made : made_of ≡ made
-    is_made = sym (result_is (rule L.rules k) w _ s.step.makes.rest refl begins) ∙ sym s.step.makes.after
+    is_made = sym (result_is (rule L.rules k) w s.step.makes.rest begins) ∙ sym s.step.makes.after
 
     passes : Passed (checks size above W L (fire k w))
     passes =

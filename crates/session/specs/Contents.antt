@@ -38,4 +38,4 @@ pub record Content {O P : Type 0} (s : Session O P) : Type 0 where
   pub words_count : s.heard.count ≡ length (ledger s).heard
   pub words : map place_of s.heard.rows.places ≡ map (written word_limit) (ledger s).heard ++ replicate (heard_places - length (ledger s).heard) (written word_limit [])
   pub rules_count : s.rules.count ≡ length (ledger s).rules
-  pub rules : map rule_place_of s.rules.places ≡ map put_down (ledger s).rules ++ replicate (rule_places - length (ledger s).rules) (put_down no_rule)
+  pub rules : map rule_place_of s.rules.rows.places ≡ map put_down (ledger s).rules ++ replicate (rule_places - length (ledger s).rules) (put_down no_rule)

@@ -1,5 +1,7 @@
--- The number of each refusal.
+-- The number of each refusal, and how words are refused that make no row and no rule.
 use Rattle.std.specs.Prelude.{ℕ}
+use Rattle.question.specs.declared.row.WordError.{WordError}
+use Rattle.question.specs.declared.row.WordError.TheVariants.{TooLong as Long, SymbolTooHigh as High}
 use Rattle.session.specs.declared.fault.Fault.{Fault}
 use Rattle.session.specs.declared.fault.Fault.TheVariants.{NoSuchStage, SymbolTooHigh, TooLong, Falls, BufferShort, RulesFull, HeardFull, NoSuchRule, OtherStage, NotInPool, OtherBeginning, ResultTooLong, TooHeavy}
 
@@ -17,3 +19,7 @@ number_of NotInPool = 14
 number_of OtherBeginning = 15
 number_of ResultTooLong = 16
 number_of TooHeavy = 17
+
+abbrev pub fault_of : WordError → Fault
+fault_of Long = TooLong
+fault_of High = SymbolTooHigh

@@ -3,7 +3,7 @@ pub mod Limits
 pub mod Checks
 pub mod Calls
 pub mod Ledger
-pub mod Blanks
+pub mod Tables
 pub mod Sessions
 pub mod Law
 pub mod Consequences

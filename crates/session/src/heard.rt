@@ -1,26 +1,27 @@
-//! The words that a session has heard.
-ghost use Rattle.std.specs.Prelude.{◌≡◌, ◌-◌, ◌≤◌, [], map, length, drop, replicate};
-ghost use Rattle.session.specs.Limits.{heard_places};
-ghost use Rattle.question.specs.Rows.{held};
+//! The words that a session has heard, as a pool.
+ghost use Rattle.std.specs.List.{ContainsAt};
+ghost use Rattle.model.specs.Symbols.{Symbols};
+ghost use Rattle.session.specs.Sessions.{words_in};
 
 use crate::limits::{HEARD_PLACES, WORD_LIMIT};
+use crate::table::Table;
+use model::pools::Pool;
+use model::sieve::Sieve;
 use question::row::Row;
 
-mod methods;
-pub(crate) mod pool;
+/// The heard words, in the order in which they came.
+pub(crate) type Heard = Table<Row<WORD_LIMIT>, HEARD_PLACES>;
 
-/// The places for heard words.
-#[derive(Clone, Copy)]
-pub(crate) struct Rows {
-    places: [Row<WORD_LIMIT>; HEARD_PLACES],
-}
+impl Pool for Heard {
+    ghost words = { λ h w. ContainsAt (words_in h) w × Symbols w };
 
-/// The heard words. The first `count` rows have them, in the order in which they came; the others are empty.
-#[derive(Clone, Copy)]
-pub(crate) struct Heard {
-    rows: Rows,
-    count: u8,
-    ghost few: { count ≤ heard_places },
-    ghost wide: { length rows.places ≡ heard_places },
-    ghost unused: { drop count (map held rows.places) ≡ replicate (heard_places - count) [] },
+    ghost symbols = { λ _ _ h. h.1 };
+
+    fn holds(&self, word: &[u8]) -> bool {
+        self.as_slice().iter().any(|row| row.word() == word)
+    }
+
+    fn meets(&self, sieve: Sieve<'_>) -> bool {
+        self.as_slice().iter().any(|row| sieve.catches(row.word()))
+    }
 }

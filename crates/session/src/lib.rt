@@ -1,11 +1,11 @@
 //! The session.
 #![tactic(auto)]
 
-mod checks;
 pub mod fault;
 mod heard;
 pub mod law;
 mod limits;
-mod rules;
+mod rewrite;
 mod session;
+mod table;
 mod telling;

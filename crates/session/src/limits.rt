@@ -1,7 +1,5 @@
 //! The limits of a session.
 
-/// How many symbols a side of a rule may have.
-pub(crate) const SIDE_LIMIT: usize = 4;
 /// How many symbols a word may have that is heard, fired or made by a fire.
 pub(crate) const WORD_LIMIT: usize = 32;
 /// How many rules there are places for.

@@ -1,5 +1,5 @@
 //! A session: a stage, rules and heard words over an order and a pool.
-ghost use Rattle.std.specs.Prelude.{◌≡◌, ◌<◌, Decides};
+ghost use Rattle.std.specs.Prelude.{◌≡◌, Decides};
 ghost use Rattle.session.specs.Calls.{admit, hear, fire, numbered, stands_at};
 ghost use Rattle.session.specs.Checks.{Checked};
 ghost use Rattle.session.specs.Contents.{Content};
@@ -9,11 +9,11 @@ ghost use Rattle.question.specs.Rules.{rule_of};
 ghost use Rattle.question.specs.Runs.{rule as rule_at};
 ghost use Rattle.session.specs.Sessions.{ledger, answer, news, Notes, Kept, Served, Asked};
 
-use crate::checks;
 use crate::fault::Fault;
 use crate::heard::Heard;
-use crate::limits::{LIST_USED, WORD_LIMIT};
-use crate::rules::Rules;
+use crate::limits::{LIST_USED, RULE_PLACES, WORD_LIMIT};
+use crate::rewrite::rewritten;
+use crate::table::Table;
 use crate::telling::tell;
 use model::orders::Order;
 use model::pools::{Either, Pool};
@@ -29,6 +29,7 @@ pub enum News {
 }
 
 /// Whether some run ends at a goal; and the number of rules in the earliest climb of those that do.
+// Kept beside Option<u8>: its names are the words of the report.
 #[derive(Clone, Copy, PartialEq, Eq, Debug)]
 pub enum Reach {
     Out,
@@ -41,7 +42,7 @@ pub struct Session<O, P> {
     order: O,
     pool: P,
     stage: u8,
-    rules: Rules,
+    rules: Table<Rule, RULE_PLACES>,
     heard: Heard,
 }
 
@@ -55,8 +56,8 @@ impl<O: Order, P: Pool> Session<O, P> {
             order,
             pool,
             stage: 0,
-            rules: Rules::new(),
-            heard: Heard::new(),
+            rules: Table::new(),
+            heard: Table::new(),
         }
     }
 
@@ -65,18 +66,11 @@ impl<O: Order, P: Pool> Session<O, P> {
         ensures { Content self.now }
     {}
 
-    /// Whether the order has the stage.
-    fn is_stage(&self, stage: u8) -> bool
-        ensures { Decides result (stage < O.Order.stages self.now.order) }
-    {
-        u16::from(stage) < self.order.size()
-    }
-
     /// A rule leads from a stage to a stage.
     fn check_stages(&self, from: u8, to: u8) -> Result<(), Fault>
         ensures { Checked (stage_checks (O.Order.stages self.now.order) from to) result (λ _. Unit {0}) }
     {
-        if !self.is_stage(from) || !self.is_stage(to) {
+        if !self.order.has_stage(from) || !self.order.has_stage(to) {
             return Err(Fault::NoSuchStage);
         }
         Ok(())
@@ -106,34 +100,32 @@ impl<O: Order, P: Pool> Session<O, P> {
 
     /// Admits a rule, and answers its number.
     pub fn admit(&mut self, from: u8, left: &[u8], to: u8, right: &[u8]) -> Result<u8, Fault>
-        ensures { Served O.Order.stages O.Order.above P.Pool.words self.old (admit (record { from = from; left = left.now; to = to; right = right.now })) (answer numbered result) self.new }
+        ensures { Served O.Order P.Pool self.old (admit (record { from = from; left = left.now; to = to; right = right.now })) (answer numbered result) self.new }
     {
         self.check_stages(from, to)?;
-        let rule = checks::rule(from, left, to, right)?;
+        let rule = Rule::new(from, left, to, right)?;
         if !self.order.at_or_above(to, from) {
             return Err(Fault::Falls);
         }
         if self.rules.is_full() {
             return Err(Fault::RulesFull);
         }
-        Ok(self.rules.add(rule))
+        Ok(self.rules.add(rule) as u8)
     }
 
     /// Hears a word, and stores it if the pool lacks it.
     pub fn hear(&mut self, word: &[u8]) -> Result<News, Fault>
-        ensures { Served O.Order.stages O.Order.above P.Pool.words self.old (hear word.now) (answer news result) self.new }
+        ensures { Served O.Order P.Pool self.old (hear word.now) (answer news result) self.new }
     {
-        let row = checks::word(word)?;
-        self.note(row)
+        self.note(Row::try_from(word)?)
     }
 
     /// The rule of that number, if it leads from the present stage and the pool has the word.
     fn ready(&self, number: u8, word: &[u8]) -> Result<Rule, Fault>
         ensures { Checked (ready_checks (P.Pool.words self.now.pool) (ledger self.now) number word.now) result (λ rule. rule_of rule ≡ rule_at (ledger self.now).rules number) }
     {
-        let Some(rule) = self.rules.get(number) else {
-            return Err(Fault::NoSuchRule);
-        };
+        let place = self.rules.as_slice().get(usize::from(number));
+        let rule = *place.ok_or(Fault::NoSuchRule)?;
         if rule.from != self.stage {
             return Err(Fault::OtherStage);
         }
@@ -145,11 +137,11 @@ impl<O: Order, P: Pool> Session<O, P> {
 
     /// Makes the step by the rule of that number on a word of the pool, and answers the stage.
     pub fn fire(&mut self, number: u8, word: &[u8]) -> Result<u8, Fault>
-        ensures { Served O.Order.stages O.Order.above P.Pool.words self.old (fire number word.now) (answer stands_at result) self.new }
+        ensures { Served O.Order P.Pool self.old (fire number word.now) (answer stands_at result) self.new }
     {
-        let row = checks::word(word)?;
+        let row = Row::try_from(word)?;
         let rule = self.ready(number, word)?;
-        let made = checks::rewritten(&rule, &row)?;
+        let made = rewritten(&rule, &row)?;
         self.note(made)?;
         self.stage = rule.to;
         Ok(rule.to)

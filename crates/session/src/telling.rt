@@ -13,6 +13,6 @@ pub(crate) fn tell(climb: &[u8], list: &mut [u8])
     requires { (length climb.now ≤ list_used) × (list_used ≤ length list.old) }
     ensures { list.new ≡ with_climb climb.now list.old }
 {
-    list[0..LIST_USED].fill(NO_RULE);
-    list[0..climb.len()].copy_from_slice(climb);
+    list[..LIST_USED].fill(NO_RULE);
+    list[..climb.len()].copy_from_slice(climb);
 }

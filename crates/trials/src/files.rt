@@ -113,5 +113,5 @@ fn lines(rt: HostRuntime) {
     assert_eq!(rt; stop_line(1, 0, &mut short), Err(LineShort));
     assert_eq!(rt; no_line(5, 0, &mut short), Err(LineShort));
     assert!(rt; short == [7; LINE_ROOM - 1]);
-    assert_eq!(rt; LineShort.number(), 9);
+    assert_eq!(rt; u8::from(LineShort), 9);
 }

@@ -11,8 +11,8 @@ use std::test::Fail;
 
 fn rule(from: u8, left: &[u8], to: u8, right: &[u8]) -> Result<Rule, Fail> {
     match Rule::new(from, left, to, right) {
-        Some(rule) => Ok(rule),
-        None => Err(Fail::new("a rule")),
+        Ok(rule) => Ok(rule),
+        Err(_) => Err(Fail::new("a rule")),
     }
 }
 
@@ -25,7 +25,7 @@ fn verdict<P: Pool>(
     first: u16,
 ) -> Result<Verdict, Fail> {
     let mut cells = [7; 32_769];
-    let Some(verdict) = judge(&Ladder(5), pool, rules, 0, goal, &mut cells) else {
+    let Ok(verdict) = judge(&Ladder(5), pool, rules, 0, goal, &mut cells) else {
         return Err(Fail::new("a verdict"));
     };
     assert!(rt; cells[0] == first && cells[32_767] == first && cells[32_768] == 7);
@@ -165,13 +165,13 @@ fn equal_rules(rt: HostRuntime) -> Result<(), Fail> {
 fn short_workspaces_and_long_lists_of_rules(rt: HostRuntime) -> Result<(), Fail> {
     let one = rule(0, &[1], 1, &[2])?;
     let mut cells = [7; 32_767];
-    assert!(rt; judge(&Ladder(5), &Book(&[]), &[one], 0, 1, &mut cells).is_none());
+    assert!(rt; judge(&Ladder(5), &Book(&[]), &[one], 0, 1, &mut cells).is_err());
     assert!(rt; cells[0] == 7);
     let mut cells = [7; 32_768];
-    assert!(rt; judge(&Ladder(5), &Book(&[]), &[one; 33], 0, 1, &mut cells).is_none());
+    assert!(rt; judge(&Ladder(5), &Book(&[]), &[one; 33], 0, 1, &mut cells).is_err());
     assert!(rt; cells[0] == 7);
-    assert!(rt; judge(&Ladder(5), &Book(&[]), &[one; 32], 0, 1, &mut cells).is_some());
-    assert!(rt; Rule::new(0, &[1, 2, 3, 4, 5], 1, &[]).is_none());
-    assert!(rt; Rule::new(0, &[], 1, &[16]).is_none());
+    assert!(rt; judge(&Ladder(5), &Book(&[]), &[one; 32], 0, 1, &mut cells).is_ok());
+    assert!(rt; Rule::new(0, &[1, 2, 3, 4, 5], 1, &[]).is_err());
+    assert!(rt; Rule::new(0, &[], 1, &[16]).is_err());
     Ok(())
 }

@@ -1,14 +1,13 @@
-use Rattle.std.proofs.Common.{sym, ◌∙◌}
-use Rattle.question.proofs.Kept.{among_next, among_none}
+use Rattle.std.proofs.Common.{rules, tests, ◌∙◌}
+use Rattle.std.proofs.lemmas.Iterator.{YieldsList-from_slice}
+use Rattle.std.proofs.lemmas.Iterator.Search.{any_from_yields_List}
+use Rattle.std.specs.Str.{bytes_eq}
+use Rattle.question.specs.Rows.{held}
+use Rattle.question.proofs.Kept.{any_among}
 use Rattle.question.proofs.begun.has.Goals as goal
 
-pub returns-then-holds : goal.returns-then-holds
-returns-then-holds c =
-    sym (among_next _ _ c.loop-other.other-index _ _ c.loop-other-test.true c.other-item.is c.if-holds.ensures) ∙ c.loop-other.invariant
-
-pub loop-other-preserved : goal.loop-other-preserved
-loop-other-preserved c =
-    sym (among_next _ _ c.loop-other.other-index _ _ c.loop-other-test.true c.other-item.is c.if-holds.ensures) ∙ c.loop-other.invariant
-
 pub returns : goal.returns
-returns c = sym (among_none _ _ c.loop-other.other-index c.loop-other-test.false) ∙ c.loop-other.invariant
+returns c =
+    let words = c.args.words.now in
+    any_from_yields_List (λ row. bytes_eq c.args.word.now (held row)) _ _ _ c.any.ensures.ran (YieldsList-from_slice words cc) (λ row b q k. search (rules, tests))
+    ∙ any_among c.args.word.now words

@@ -7,5 +7,5 @@ use Rattle.question.proofs.mark.has.Goals as goal
 pub returns : goal.returns
 unfolding Has
 returns c =
-    let low = and_mask (c.args.mark / 2 ^ c.args.bit) 1 in
+    let low = and_mask (c.args.set / 2 ^ c.args.bit) 1 in
     (λ e. sym low ∙ eqb-true _ _ e, λ h. eq-eqb _ _ (low ∙ h))

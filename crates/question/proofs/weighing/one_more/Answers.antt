@@ -1,9 +1,9 @@
-use Rattle.std.proofs.Common.{sym, refl, ap, ◌∙◌, arith, length-set}
+use Rattle.std.proofs.Common.{None, get_or, sym, refl, ap, ◌∙◌, arith, length-set}
 use lib.ListN.{length-map}
 use Rattle.question.specs.Rules.{rules_of}
 use Rattle.question.specs.Weighing.{capped}
 use Rattle.question.proofs.Coded.{rule_at}
-use Rattle.question.proofs.Weighed.{none_yet, rule_more, rules_all}
+use Rattle.question.proofs.Weighed.{max_larger, none_yet, rule_more, rules_all}
 use Rattle.question.proofs.weighing.one_more.Goals as goal
 
 pub loop-k-init : goal.loop-k-init
@@ -17,7 +17,7 @@ loop-k-preserved c = (
       let rule = c.index-rules-k.result in
       let is = rule_at rules c.loop-k.k rule c.loop-k-test.true c.index-rules-k.is in
       rule_more (rules_of rules) _ f c.loop-k.k rule.from _ _ c.by_rule.result _ (omega arith) (ap (λ r. r.from) is)
-      (s.at rule.to (omega arith) ∙ ap (λ p. capped (f p)) (sym (ap (λ r. r.to) is))) c.by_rule.ensures c.larger.ensures (c.loop-k.invariant.1 f s),
+      (s.at rule.to (omega arith) ∙ ap (λ p. capped (f p)) (sym (ap (λ r. r.to) is))) c.by_rule.ensures (c.max.ensures ∙ max_larger (get_or c.loop-k.longer rule.from None) c.by_rule.result) (c.loop-k.invariant.1 f s),
 )
 
 pub returns : goal.returns

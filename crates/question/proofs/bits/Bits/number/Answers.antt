@@ -1,28 +1,32 @@
-use Rattle.std.proofs.Common.{map, sym, ap, ◌∙◌, subst, arith}
+use Rattle.std.proofs.Common.{◌≡◌, Some, map, rules, tests, sym, refl, ap, ◌∙◌, subst, arith}
+use lib.ListN.{length-map}
+use Rattle.std.specs.Option.{unwrap_or}
+use Rattle.std.proofs.lemmas.Iterator.{YieldsList-from_slice}
+use Rattle.std.proofs.lemmas.Iterator.Search.{position_from_yields_List}
 use Rattle.question.specs.Lists.{In}
 use Rattle.question.specs.Horns.{bit}
-use Rattle.question.specs.Bits.{place, bit_of}
-use Rattle.question.proofs.Sets.{place_next, place_missed}
+use Rattle.question.specs.Bits.{same_bit, place, bit_of, bits_of}
+use Rattle.question.proofs.Numbered.{place_below}
+use Rattle.question.proofs.Sets.{place_found}
 use Rattle.question.proofs.bits.Bits.number.Goals as goal
+use Rattle.question.proofs.bits.Bits.number.Goals.{After-position-place}
 
-pub returns-then-is : goal.returns-then-is
-returns-then-is c =
+found : (c : After-position-place) → c.position-place.result ≡ Some (place (bit c.args.at c.args.goal c.args.begun.now) (bits_of c.args.self.now))
+found c =
     let b = bit c.args.at c.args.goal c.args.begun.now in
     let slots = c.as_slice-slots.result.now in
-    let here = place_next b slots c.loop-i.i _ _ c.loop-i-test.true c.index-slots-i.is c.if-is.ensures in
+    let same = c.as_slice-slots.ensures.value in
+    position_from_yields_List (λ s. same_bit b (bit_of s)) _ _ c.position-place.result c.position-place.ensures.ran (YieldsList-from_slice slots cc) (λ s t q k. search (rules, tests))
+    ∙ place_found b slots (subst (λ l. In b (map bit_of l)) (sym same) c.requires)
+    ∙ ap (λ l. Some (place b (map bit_of l))) same
+
+pub unwrap-requires : goal.unwrap-requires
+unwrap-requires c = rw (found (goal.at.unwrap-requires c).After-position-place) refl
+
+pub returns : goal.returns
+returns c =
+    let is = ap (λ o. unwrap_or o 0) (sym c.unwrap.ensures ∙ found (goal.at.returns c).After-position-place) in
     record {
-      is = omega (arith, here, c.loop-i.invariant) ∙ ap (λ l. place b (map bit_of l)) c.as_slice-slots.ensures.value;
-      below = omega (arith, c.loop-i-test.true, c.as_slice-slots.ensures.short);
+      is = is;
+      below = omega (arith, is, place_below c.requires, length-map c.args.self.now.slots.items bit_of, c.args.self.now.short);
     }
-
-pub loop-i-preserved : goal.loop-i-preserved
-loop-i-preserved c =
-    let b = bit c.args.at c.args.goal c.args.begun.now in
-    let slots = c.as_slice-slots.result.now in
-    omega (arith, place_next b slots c.loop-i.i _ _ c.loop-i-test.true c.index-slots-i.is c.if-is.ensures, c.loop-i.invariant)
-
-pub unreachable-requires : goal.unreachable-requires
-unreachable-requires c =
-    let b = bit c.args.at c.args.goal c.args.begun.now in
-    place_missed b c.as_slice-slots.result.now c.loop-i.i c.loop-i.auto.i-end c.loop-i-test.false c.loop-i.invariant
-    (subst (λ l. In b (map bit_of l)) (sym c.as_slice-slots.ensures.value) c.requires)

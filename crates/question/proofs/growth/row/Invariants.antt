@@ -1,7 +1,0 @@
-use Rattle.std.proofs.Common.{◌≡◌}
-use Rattle.question.proofs.Turns.{Sweep, SettlesAt}
-use Rattle.question.proofs.growth.row.Given as goal
-
--- if no cell changed so far, the clauses before this one add no bit
-abbrev pub invariant-loop-clause : goal.invariant-loop-clause
-invariant-loop-clause l = Sweep (◌≡◌ l.clauses) (SettlesAt l.clauses l.mark) l.initial.table l.clause-index l.table l.changed
