@@ -5,15 +5,15 @@ ghost use Rattle.design.specs.Faults.{number};
 #[derive(Clone, Copy, PartialEq, Eq, Debug)]
 pub enum Fault {
     /// Fewer bytes are left than a record's header or its length needs.
-    Cut,
+    Cut = 1,
     /// No kind of record has this tag.
-    UnknownTag,
+    UnknownTag = 2,
     /// A record of this kind has another length.
-    WrongLength,
+    WrongLength = 3,
     /// A record of this kind has to stand elsewhere.
-    Misplaced,
+    Misplaced = 4,
     /// The file has too many bytes.
-    FileTooLong,
+    FileTooLong = 7,
 }
 
 /// A fault, and the byte at which its record starts.
@@ -37,12 +37,6 @@ impl From<Fault> for u8 {
     ghost from_gives = { λ fault n. n ≡ number fault };
 
     fn from(fault: Fault) -> u8 {
-        match fault {
-            Fault::Cut => 1,
-            Fault::UnknownTag => 2,
-            Fault::WrongLength => 3,
-            Fault::Misplaced => 4,
-            Fault::FileTooLong => 7,
-        }
+        fault as u8
     }
 }

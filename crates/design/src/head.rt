@@ -16,7 +16,7 @@ use model::symbols::SymbolSet;
 pub const FILE_LIMIT: usize = 16_384;
 
 /// What a head sets up, and the file from there on.
-#[derive(Clone, Copy)]
+#[derive(Clone, Copy, PartialEq, Eq, Debug)]
 pub struct Head<'a> {
     pub order: Pair<Ladder, Flags>,
     pub pool: Either<Book<'a>, Option<KnownKeys>>,
@@ -50,6 +50,7 @@ fn stages(reader: &mut Reader<'_>) -> Result<Pair<Ladder, Flags>, Refusal>
 fn book<'a>(reader: &mut Reader<'a>) -> Result<&'a [u8], Refusal>
     ensures { BookRead reader.old result reader.new }
 {
+    // Kept as a match: tried with `map_or`, and the proof did not close.
     match reader.next_if(u8::from(Tag::Book))? {
         Some(record) => Ok(record.value),
         None => Ok(&[]),

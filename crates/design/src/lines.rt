@@ -21,6 +21,8 @@ impl From<LineShort> for u8 {
     }
 }
 
+// Kept as a lent buffer, and the length as an answer: nothing is allocated, and what is past the line is promised to stay.
+// Texts are pushed one by one, since `write!` does not promise that it succeeds.
 /// Ends a line and writes it to the front of `buffer`; answers its length.
 fn end(mut line: ArrayString<LINE_ROOM>, buffer: &mut [u8]) -> Result<usize, LineShort>
     requires { length line.bytes < 64 }
@@ -44,7 +46,7 @@ pub fn stages_line(size: u16, buffer: &mut [u8]) -> Result<usize, LineShort>
     end(line, buffer)
 }
 
-/// A word, the number of a refusal, and its place.
+/// A word, the number of a refusal as a byte, and its place.
 fn refusal_line(word: &str, number: u8, place: usize, buffer: &mut [u8]) -> Result<usize, LineShort>
     requires { length word.now ≤ 5 }
     ensures { LineOut (word.now ++ decimal number ++ codes " at " ++ decimal place ++ newline) buffer.old result buffer.new }
@@ -58,6 +60,7 @@ fn refusal_line(word: &str, number: u8, place: usize, buffer: &mut [u8]) -> Resu
 }
 
 /// The line of a refusal that ends the report.
+// Kept as a byte: any number may be told, and the enums of faults lie in two crates.
 pub fn stop_line(number: u8, place: usize, buffer: &mut [u8]) -> Result<usize, LineShort>
     ensures { LineOut (stop_line number place) buffer.old result buffer.new }
 {
@@ -65,6 +68,7 @@ pub fn stop_line(number: u8, place: usize, buffer: &mut [u8]) -> Result<usize, L
 }
 
 /// The line of a refusal after which the report goes on.
+// Kept as a byte, as above.
 pub fn no_line(number: u8, place: usize, buffer: &mut [u8]) -> Result<usize, LineShort>
     ensures { LineOut (no_line number place) buffer.old result buffer.new }
 {

@@ -8,12 +8,14 @@ use crate::fault::{Fault, Refusal};
 /// A record: its tag, its value, which is a part of the file, and the byte at which it starts.
 #[derive(Clone, Copy, PartialEq, Eq, Debug)]
 pub struct Record<'a> {
+    // Kept as a byte: any byte may stand here in a file.
     pub tag: u8,
     pub value: &'a [u8],
     pub place: usize,
 }
 
 /// A file, and how far it is read.
+// Kept as a file and a place: a record's place is part of what the reader hands out, and the rest is file[place..].
 #[derive(Clone, Copy, PartialEq, Eq, Debug)]
 pub struct Reader<'a> {
     file: &'a [u8],
@@ -56,6 +58,7 @@ impl<'a> Reader<'a> {
     }
 
     /// The next record where the next byte is `tag`; else `None`, and the reader stays.
+    // Kept as a byte, here and above: a kind alone would ask more of callers.
     pub fn next_if(&mut self, tag: u8) -> Result<Option<Record<'a>>, Refusal>
         ensures { NextIf tag self.old result self.new }
     {

@@ -16,6 +16,7 @@ pub(crate) const MARK_COUNT: u16 = MARKS as u16;
 pub struct Sieve<'a> {
     pub table: &'a [u16],
     pub first: u16,
+    // Kept as bytes: any but 0 counts, and a list of bools would ask more of callers.
     pub wanted: &'a [u8],
 }
 

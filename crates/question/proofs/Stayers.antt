@@ -12,24 +12,6 @@ use Rattle.question.specs.Rules.{rule_of, rules_of}
 use Rattle.question.specs.declared.rule.Rule.{Rule as Held}
 use Rattle.question.proofs.Members.{in_get_d}
 
--- What f gives for the staying rules from number k on.
-module _ {X : Type 0} (f : Rule → List X) (p : ℕ) (rules : List Held) (k : ℕ) where
-  abbrev pub from_rule : List X
-  from_rule = flat_map f (staying (rules_of (drop k rules)) p)
-
-module _ {X : Type 0} (f : Rule → List X) (p : ℕ) (rules : List Held) (k : ℕ) where
-  pub from_rule_next : (r : Held) (t : Bool) → k < length rules → r ≡ get_or rules k r → t ≡ stays_at p (rule_of r) →
-      from_rule f p rules k ≡ cond t (f (rule_of r)) [] ++ from_rule f p rules (k + 1)
-  from_rule_next r t less is e =
-      at_drop_more (λ l. flat_map f (staying (rules_of l) p)) rules k r less ∙ by_test t (get_or rules k r) (e ∙ ap (λ x. stays_at p (rule_of x)) is) ∙ ap (λ x. cond t (f (rule_of x)) [] ++ from_rule f p rules (k + 1)) (sym is)
-    where
-      by_test : (t : Bool) (x : Held) → t ≡ stays_at p (rule_of x) → flat_map f (staying (rule_of x ∷ rules_of (drop (k + 1) rules)) p) ≡ cond t (f (rule_of x)) [] ++ from_rule f p rules (k + 1)
-      by_test true x e = ap (λ s. flat_map f (cond s (rule_of x ∷ staying (rules_of (drop (k + 1) rules)) p) (staying (rules_of (drop (k + 1) rules)) p))) (sym e)
-      by_test false x e = ap (λ s. flat_map f (cond s (rule_of x ∷ staying (rules_of (drop (k + 1) rules)) p) (staying (rules_of (drop (k + 1) rules)) p))) (sym e)
-
-  pub from_rule_end : length rules ≤ k → from_rule f p rules k ≡ []
-  from_rule_end le = at_drop_all (λ l. flat_map f (staying (rules_of l) p)) rules k le
-
 -- The rules of the code that stay at the stage p.
 abbrev pub stayers : ℕ → List Held → List Held
 stayers p rules = filter (λ r. stays_at p (rule_of r)) rules
@@ -55,3 +37,17 @@ pub stayers_yielded : {X : Type 0} (f : Rule → List X) (p : ℕ) (rules : List
     flat_map (λ r. f (rule_of r.now)) yielded ≡ flat_map f (staying (rules_of rules) p)
 stayers_yielded f p rules yielded e =
     sym (flat_map-map (λ r. f (rule_of r)) (λ r. r.now) yielded) ∙ ap (flat_map (λ r. f (rule_of r))) e ∙ sym (flat_map-map f rule_of (stayers p rules)) ∙ ap (flat_map f) (stayers_stand p rules)
+
+-- What f gives for them, from number k of them on.
+module _ {X : Type 0} (f : Rule → List X) (p : ℕ) (rules : List Held) where
+  abbrev pub left_from : ℕ → List X
+  left_from k = flat_map f (rules_of (drop k (stayers p rules)))
+
+  pub left_all : left_from 0 ≡ flat_map f (staying (rules_of rules) p)
+  left_all = ap (flat_map f) (stayers_stand p rules)
+
+  pub left_next : (k : ℕ) (r : Held) → (k < length (stayers p rules)) × (r ≡ get_or (stayers p rules) k r) → left_from k ≡ f (rule_of r) ++ left_from (k + 1)
+  left_next k r (less, is) = at_drop_more (λ l. flat_map f (rules_of l)) (stayers p rules) k r less ∙ ap (λ x. f (rule_of x) ++ left_from (k + 1)) (sym is)
+
+  pub left_none : (yielded : List (Bor Held)) → map (λ r. r.now) yielded ≡ stayers p rules → left_from (length yielded) ≡ []
+  left_none yielded e = at_drop_all (λ l. flat_map f (rules_of l)) (stayers p rules) (length yielded) (omega (arith, ap length e, length-map yielded (λ (r : Bor Held). r.now)))

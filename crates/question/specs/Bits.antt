@@ -2,11 +2,10 @@
 use Rattle.std.specs.Prelude.{◌≡◌, ℕ, suc, ◌-◌, ◌≤◌, Bool, cond, ◌&&◌, List, [], ◌∷◌, ◌++◌, map, length, take, Result, ◌==◌}
 use Rattle.std.specs.List.{flat_map}
 use Rattle.std.specs.Str.{bytes_eq}
-use Rattle.question.specs.Lists.{In, numbers, between}
+use Rattle.question.specs.Lists.{Becomes, In, numbers, between}
 use Rattle.question.specs.Runs.{Word, Rule, Climb}
 use Rattle.question.specs.Rises.{beginnings, begun, changing, stage, weight, weight_limit}
 use Rattle.question.specs.Rows.{held}
-use Rattle.question.specs.Fews.{Becomes}
 use Rattle.question.specs.Horns.{Bit, bit}
 use Rattle.question.specs.declared.bits.Bits.{Bits}
 use Rattle.question.specs.declared.bits.Slot.{Slot}

@@ -14,7 +14,6 @@ pub mod Accepts
 pub mod Marks
 pub mod Stable
 pub mod Walks
-pub mod Fews
 pub mod Rules
 pub mod Horns
 pub mod Bits

@@ -8,11 +8,11 @@ abbrev pub held : {N : ℕ} → Row N → List ℕ
 held row = take row.len row.symbols
 
 -- So many symbols go into a row of at most n. A row counts them in a byte.
-abbrev pub Fits : ℕ → ℕ → Type 0
-Fits n long = (n ≤ 255) × (long ≤ n)
+abbrev pub HasRoom : ℕ → ℕ → Type 0
+HasRoom n long = (n ≤ 255) × (long ≤ n)
 
 -- A value is made of words if they fit and have symbols only, and is what it is to be. Lengths are judged before symbols.
-abbrev pub Makes : {X : Type 0} → Type 0 → Type 0 → (X → Type 0) → Result X WordError → Type 0
-Makes fits symbols Wanted (Ok x) = fits × symbols × Wanted x
-Makes fits symbols Wanted (Err TooLong) = fits → ⊥
-Makes fits symbols Wanted (Err SymbolTooHigh) = fits × (symbols → ⊥)
+abbrev pub IsMade : {X : Type 0} → Type 0 → Type 0 → (X → Type 0) → Result X WordError → Type 0
+IsMade fits symbols Wanted (Ok x) = fits × symbols × Wanted x
+IsMade fits symbols Wanted (Err TooLong) = fits → ⊥
+IsMade fits symbols Wanted (Err SymbolTooHigh) = fits × (symbols → ⊥)

@@ -4,7 +4,7 @@ ghost use Rattle.std.specs.Str.{bytes_eq};
 ghost use Rattle.question.specs.Rows.{held};
 ghost use Rattle.question.specs.Rises.{among, kept, height};
 ghost use Rattle.question.specs.Rises.{beginnings as beginnings_of, begun as begun_at};
-ghost use Rattle.question.specs.Fews.{Becomes};
+ghost use Rattle.question.specs.Lists.{Becomes};
 ghost use Rattle.question.specs.Rules.{rules_of, words_of};
 
 use crate::row::Row;
@@ -28,6 +28,7 @@ impl<T: Drop> From<CapacityError<T>> for TooHeavy {
 }
 
 /// Whether the row holds the word.
+// Kept beside the derived equality: callers have a slice, and a row of it would copy it first.
 pub(crate) fn holds(row: &Row<4>, word: &[u8]) -> bool
     ensures { result ≡ bytes_eq word.now (held row.now) }
 {
@@ -40,6 +41,7 @@ pub(crate) fn beginnings(left: &Row<4>) -> ArrayVec<Row<4>, 3>
 {
     let word = left.word();
     let mut found = ArrayVec::new();
+    // Kept as a loop over lengths: a chain that collects may run out of room, and would answer a Result.
     for m in 1..word.len() {
         found.push(Row::of(&word[..m]));
     }
@@ -78,10 +80,7 @@ pub(crate) fn begun(rules: &[Rule], stage: u8) -> Result<Words, TooHeavy>
     ensures { MatchResult result (λ words. words_of words.items ≡ begun_at (rules_of rules.now) stage) (λ _. 11 < height (rules_of rules.now) stage) }
 {
     let mut words = Words::new();
-    for rule in rules {
-        if !rule.stays_at(stage) {
-            continue;
-        }
+    for rule in rules.iter().filter(|rule| rule.stays_at(stage)) {
         keep_beginnings(&mut words, &rule.left)?;
     }
     Ok(words)

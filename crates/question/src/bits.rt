@@ -32,6 +32,7 @@ impl Slot {
     ghost use Rattle.question.specs.Bits.{same_bit, bit_of};
 
     /// Whether this is that bit.
+    // Kept as three values here and below: a struct of them would be built at each call from the same three.
     fn is(&self, at: u8, goal: u8, begun: &[u8]) -> bool
         ensures { result ≡ same_bit (bit at goal begun.now) (bit_of self.now) }
     {

@@ -26,6 +26,7 @@ fn wanting(bit: u8) -> [u8; MARKS]
     wanted_where(|mark| has(mark, bit))
 }
 
+// The table and its first mark are kept as two: both go straight into a sieve.
 /// Whether the bit accepts some word of the pool, by a saturated table.
 fn accepts_some<Q: Pool>(pool: &Q, table: &[u16], first: u16, bit: u8) -> bool
     requires { bit < 16 }
@@ -93,7 +94,6 @@ pub(crate) fn feasible<Q: Pool>(pool: &Q, rules: &[Rule], climb: &[u8], table: &
     };
     let mut clauses = Clauses::none();
     let n = climb.len();
-    // Kept as a loop: each way changes the clauses and the table, and a chain's proof says nothing of a closure that changes what it captures.
     for way in 0..ways(n) {
         let suppliers = suppliers(way);
         let plan = Plan {

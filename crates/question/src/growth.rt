@@ -49,6 +49,7 @@ impl Clause {
     }
 }
 
+// What a clause adds is said in one `Turn` for one cell, for each cell, and for a row: it is the promise itself.
 impl Table<'_> {
     /// Adds what the clause gives to the cell of `mark` and `symbol`, and says whether the cell changed.
     fn raise(&mut self, clause: &Clause, mark: Mark, symbol: u8) -> bool

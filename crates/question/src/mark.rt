@@ -10,6 +10,8 @@ pub(crate) struct Mark {
 }
 
 /// Whether the bit is in the set.
+// Kept beside `SymbolSet`'s test, which is of symbols. The bound on bits is kept as a clause: it stands at three functions whose
+// bits are counted, by loops and by `Clause`.
 pub(crate) fn has(set: u16, bit: u8) -> bool
     requires { bit < 16 }
     ensures { Decides result (Has set bit) }
@@ -18,17 +20,21 @@ pub(crate) fn has(set: u16, bit: u8) -> bool
 }
 
 impl Mark {
-    /// The mark of no bits.
-    pub(crate) fn none() -> Mark
-        ensures { result.bits ≡ 0 }
-    {
-        Mark { bits: 0 }
-    }
-
     /// Whether each bit of `part` is in the mark.
     pub(crate) fn covers(self, part: u16) -> bool
         ensures { Decides result (bit_and self.bits part ≡ part) }
     {
         self.bits & part == part
+    }
+}
+
+impl Default for Mark {
+    ghost use Rattle.std.specs.Prelude.{◌≡◌};
+
+    ghost is_default = { λ mark. mark.bits ≡ 0 };
+
+    /// The mark of no bits.
+    fn default() -> Mark {
+        Mark { bits: 0 }
     }
 }

@@ -41,7 +41,7 @@ impl Plan<'_> {
         // Kept as a loop: as a `filter` and a `fold`, it stayed open that the fold's closure may be called for each rule.
         let mut set = 0;
         for k in j + 1..self.climb.len() as u8 {
-            if self.suppliers[k as usize] == Some(j) {
+            if self.suppliers[usize::from(k)] == Some(j) {
                 set |= self.bits.only(j + 1, k, &[]);
             }
         }

@@ -14,6 +14,7 @@ pub enum WordError {
 }
 
 /// A word of at most `N` symbols. Places past its end hold 0.
+// Kept as an array and a length: words are copied, and the kit's ArrayVec is not `Copy` and leaves open what is past the end.
 #[derive(Clone, Copy, Debug, Eq, PartialEq)]
 pub struct Row<const N: usize> {
     len: u8,
@@ -25,14 +26,14 @@ pub struct Row<const N: usize> {
 }
 
 impl<const N: usize> Row<N> {
-    ghost use Rattle.question.specs.Rows.{held, Fits, Makes};
+    ghost use Rattle.question.specs.Rows.{held, HasRoom, IsMade};
 
     pub fn word(&self) -> &[u8]
         ensures value { result.now ≡ held self.now }
         ensures short { length result.now ≤ N }
         ensures below { Symbols result.now }
     {
-        &self.symbols[..self.len as usize]
+        &self.symbols[..usize::from(self.len)]
     }
 
     /// The row's word with `word` after it.
@@ -41,7 +42,7 @@ impl<const N: usize> Row<N> {
         requires symbols { Symbols word.now }
         ensures { held result ≡ held self.now ++ word.now }
     {
-        let start = self.len as usize;
+        let start = usize::from(self.len);
         let end = start + word.len();
         let mut symbols = self.symbols;
         let places = &mut symbols[..];
@@ -54,7 +55,7 @@ impl<const N: usize> Row<N> {
 
     /// The two words in a row, one after the other, if it has room for them and each byte is a symbol.
     pub fn joined(front: &[u8], back: &[u8]) -> Result<Row<N>, WordError>
-        ensures { Makes (Fits N (length front.now + length back.now)) (Symbols front.now × Symbols back.now) (λ row. held row ≡ front.now ++ back.now) result }
+        ensures { IsMade (HasRoom N (length front.now + length back.now)) (Symbols front.now × Symbols back.now) (λ row. held row ≡ front.now ++ back.now) result }
     {
         if N > 255 || front.len() + back.len() > N {
             return Err(WordError::TooLong);
@@ -92,18 +93,12 @@ impl<const N: usize> Default for Row<N> {
 impl<const N: usize> TryFrom<&[u8]> for Row<N> {
     type Error = WordError;
 
-    ghost use Rattle.question.specs.Rows.{held, Fits, Makes};
+    ghost use Rattle.question.specs.Rows.{held, HasRoom, IsMade};
 
-    ghost try_from_gives = { λ word r. Makes (Fits N (length word.now)) (Symbols word.now) (λ row. held row ≡ word.now) r };
+    ghost try_from_gives = { λ word r. IsMade (HasRoom N (length word.now)) (Symbols word.now) (λ row. held row ≡ word.now) r };
 
     /// The word in a row, if it has room for it and each byte is a symbol.
     fn try_from(word: &[u8]) -> Result<Row<N>, WordError> {
-        if N > 255 || word.len() > N {
-            return Err(WordError::TooLong);
-        }
-        if !all_symbols(word) {
-            return Err(WordError::SymbolTooHigh);
-        }
-        Ok(Row::of(word))
+        Row::joined(word, &[])
     }
 }

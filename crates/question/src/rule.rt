@@ -3,7 +3,7 @@ ghost use Rattle.std.specs.Prelude.{◌≡◌, ◌<◌, ◌≤◌, length, slice
 ghost use Rattle.model.specs.Symbols.{Symbols};
 ghost use Rattle.question.specs.Rises.{stays_at};
 ghost use Rattle.question.specs.Rises.{changing as changing_at};
-ghost use Rattle.question.specs.Rows.{Makes};
+ghost use Rattle.question.specs.Rows.{IsMade};
 ghost use Rattle.question.specs.Rules.{rule_of, rules_of};
 
 use crate::row::{Row, WordError};
@@ -23,7 +23,7 @@ pub struct Rule {
 impl Rule {
     /// The rule with these sides, if each has at most four bytes and each byte is a symbol.
     pub fn new(from: u8, left: &[u8], to: u8, right: &[u8]) -> Result<Rule, WordError>
-        ensures { Makes ((length left.now ≤ 4) × (length right.now ≤ 4)) (Symbols left.now × Symbols right.now) (λ rule. rule_of rule ≡ record { from = from; left = left.now; to = to; right = right.now }) result }
+        ensures { IsMade ((length left.now ≤ 4) × (length right.now ≤ 4)) (Symbols left.now × Symbols right.now) (λ rule. rule_of rule ≡ record { from = from; left = left.now; to = to; right = right.now }) result }
     {
         // The lengths of both sides are judged before the symbols of either.
         if right.len() > SIDE {
@@ -50,5 +50,5 @@ pub(crate) fn changing(rules: &[Rule], climb: &[u8], i: u8) -> Rule
     requires { (i < length climb.now) × (slice_index climb.now i < length rules.now) }
     ensures { rule_of result ≡ changing_at (rules_of rules.now) climb.now i }
 {
-    rules[climb[i as usize] as usize]
+    rules[usize::from(climb[usize::from(i)])]
 }

@@ -34,7 +34,7 @@ fn run(clauses: &[Clause], table: &mut Table<'_>) -> Mark
     ensures saturated { Saturated clauses.now (cells_of table.new) result.bits }
 {
     let mut reached = Reached::new();
-    let mut first = Mark::none();
+    let mut first = Mark::default();
     loop {
         let old = first;
         first = table.start(clauses, old);

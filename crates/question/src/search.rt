@@ -19,6 +19,7 @@ impl Rule {
     }
 }
 
+// Kept as a flag beside a number: past the climb's end the one number says nothing, and an Option would be taken apart at each use.
 /// How many numbers there are to choose from at a place of a climb: those of the rules, and past the climb's end one that says nothing.
 fn choices(rules: &[Rule], within: bool) -> u8
     requires { length rules.now ≤ 32 }
@@ -35,10 +36,11 @@ fn next(rules: &[Rule], within: bool, stage: u8, k: u8) -> Option<u8>
     if !within {
         return Some(stage);
     }
-    let rule = &rules[k as usize];
+    let rule = &rules[usize::from(k)];
     rule.changes_at(stage).then_some(rule.to)
 }
 
+// Kept as rules, stage and goal, of at most 32 rules: only this and the weighing take them, as `judge` was lent them.
 /// The earliest rise of at most four rules from `stage` to `goal` that is not too heavy and that the pool serves.
 pub(crate) fn earliest<Q: Pool>(
     pool: &Q,
@@ -50,7 +52,8 @@ pub(crate) fn earliest<Q: Pool>(
     requires { length rules.now ≤ 32 }
     ensures { Sought (ShortRise (rules_of rules.now) stage goal (Servable (rules_of rules.now) (Q.Pool.words pool.now))) result }
 {
-    // Kept as nested loops: the loop at depth k chooses the k-th rule, and the first climb that serves leaves all of them.
+    // Kept as nested loops: each goes on from the stage that the one around it reached, which one loop would have to keep in a
+    // list, and the first climb that serves leaves all of them.
     'search: {
         for n in 0..=4 {
             for a in 0..choices(rules, n > 0) {
@@ -73,7 +76,7 @@ pub(crate) fn earliest<Q: Pool>(
                                 continue;
                             }
                             let climb = [a, b, c, d];
-                            if feasible(pool, rules, &climb[..n as usize], cells) {
+                            if feasible(pool, rules, &climb[..usize::from(n)], cells) {
                                 break 'search Some(Climb {
                                     rules: climb,
                                     len: n,

@@ -46,8 +46,9 @@ impl<'a> Table<'a> {
         Table { cells }
     }
 
-    // Kept beside the sieve's `next` and `run`: those test each entry again, which would slow every pass over the table.
     /// The mark that `symbol` leads to from `mark`.
+    // Kept beside the sieve's `next` and `run`: a sieve lends the cells for reading alone, asks for a list of wanted marks, and
+    // tests each entry again. The bound on symbols is kept as a clause: words are bytes, with `Symbols` as the law of pools.
     pub(crate) fn next(&self, mark: Mark, symbol: u8) -> Mark
         requires { symbol < 16 }
         ensures { result.bits ≡ cell_of self.now.cells.now mark.bits symbol }

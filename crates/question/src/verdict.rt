@@ -47,9 +47,9 @@ pub fn judge<O: Order, Q: Pool>(
     if rules.len() > MOST_RULES {
         return Err(Unjudged::TooManyRules);
     }
-    let Some(cells) = workspace.first_chunk_mut::<CELLS>() else {
-        return Err(Unjudged::TooFewCells);
-    };
+    let cells = workspace
+        .first_chunk_mut::<CELLS>()
+        .ok_or(Unjudged::TooFewCells)?;
     if is_heavy(rules, stage, goal) {
         return Ok(Verdict::TooHeavy);
     }

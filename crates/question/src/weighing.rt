@@ -12,6 +12,7 @@ use crate::begun::{LIMIT, begun};
 use crate::rule::Rule;
 
 /// Stands for each weight above the limit.
+// Kept as a number: weights are added and compared, and stop at this one.
 const OVER: usize = LIMIT + 1;
 
 /// A stage is a byte.
@@ -27,13 +28,14 @@ fn height(rules: &[Rule], stage: u8) -> usize
     begun(rules, stage).map_or(OVER, |words| words.len())
 }
 
+// Kept by the rule's number, here and below: so the definitions speak of it.
 /// What rule `k` adds to the weight of a rise, before `n` more rules, or `OVER`.
 fn adds(rules: &[Rule], k: usize, n: u8) -> usize
     requires { k < length rules.now }
     ensures { result ≡ cap (adds_at (rules_of rules.now) n k) }
 {
     let rule = &rules[k];
-    let high = (1 + n as usize) * (1 + height(rules, rule.from));
+    let high = (1 + usize::from(n)) * (1 + height(rules, rule.from));
     let wide = rule.left.word().len();
     (high + wide.saturating_sub(1)).min(OVER)
 }
@@ -64,8 +66,8 @@ fn one_more(rules: &[Rule], n: u8, weights: &Weights) -> Weights
 {
     let mut longer = [None; STAGES];
     for (k, rule) in rules.iter().enumerate() {
-        let from = rule.from as usize;
-        let rest = weights[rule.to as usize];
+        let from = usize::from(rule.from);
+        let rest = weights[usize::from(rule.to)];
         // A weight that is missing comes before each that is not.
         longer[from] = longer[from].max(by_rule(rules, k, n, rest));
     }
@@ -78,10 +80,10 @@ pub(crate) fn is_heavy(rules: &[Rule], stage: u8, goal: u8) -> bool
     ensures { NeverLong (rules_of rules.now) → Decides result (Heavy (rules_of rules.now) stage goal) }
 {
     let mut weights = [None; STAGES];
-    weights[goal as usize] = Some(0);
+    weights[usize::from(goal)] = Some(0);
     for n in 0..rules.len() as u8 {
         weights = one_more(rules, n, &weights);
-        if is_over(weights[stage as usize]) {
+        if is_over(weights[usize::from(stage)]) {
             return true;
         }
     }

@@ -7,7 +7,7 @@ use Rattle.model.specs.Symbols.{Symbols}
 use Rattle.question.specs.declared.row.Row.{Row}
 use Rattle.question.specs.declared.row.WordError.{WordError}
 use Rattle.question.specs.declared.rule.Rule.{Rule as Held}
-use Rattle.question.specs.Rows.{held, Fits, Makes}
+use Rattle.question.specs.Rows.{held, HasRoom, IsMade}
 use Rattle.question.specs.Rules.{rule_of}
 use Rattle.session.specs.declared.fault.Fault.{Fault}
 use Rattle.session.specs.declared.fault.Fault.TheVariants.{HeardFull}
@@ -46,11 +46,11 @@ module _ {O P : Type 0} {order : OrderMeaning O} {pool : PoolMeaning P} {s : Ses
   refused_first n f h = refused_here f (at_first n (table order pool s call) f h)
 
 -- A word that makes no row is refused by its checks.
-pub no_word : (w : Word) (Q : Row 32 → Type 0) (e : WordError) → Makes (Fits 32 (length w)) (Symbols w) Q (Err e) → RefusedBy (fault_of e) (word_checks w)
+pub no_word : (w : Word) (Q : Row 32 → Type 0) (e : WordError) → IsMade (HasRoom 32 (length w)) (Symbols w) Q (Err e) → RefusedBy (fault_of e) (word_checks w)
 no_word w Q e h = no_words (length w ≤ 32) Q (λ short. (omega arith, short)) (λ fits. fits.1) e h
 
 -- Sides that make no rule are refused by their checks.
-pub no_rule_made : (left right : Word) (Q : Held → Type 0) (e : WordError) → Makes ((length left ≤ 4) × (length right ≤ 4)) (Symbols left × Symbols right) Q (Err e) → RefusedBy (fault_of e) (side_checks left right)
+pub no_rule_made : (left right : Word) (Q : Held → Type 0) (e : WordError) → IsMade ((length left ≤ 4) × (length right ≤ 4)) (Symbols left × Symbols right) Q (Err e) → RefusedBy (fault_of e) (side_checks left right)
 no_rule_made left right Q e h = no_words ((length left ≤ 4) × (length right ≤ 4)) Q (λ short. short) (λ short. short) e h
 
 -- A word that the pool lacks is noted.
@@ -97,7 +97,7 @@ module _ (size : ℕ) (above : ℕ → ℕ → Type 0) (W : Word → Type 0) (L 
       subst (Fires noted M) (sym is) (fires_at noted M good_word ready) (subst (λ u. Passed (result_checks r u)) same good) (subst (λ u. Notes W L u noted M) (makes ∙ ap (made_by r) same) notes)
 
 -- A fire of rule number k on the word w, which the row holds.
-module _ {O P : Type 0} (order : OrderMeaning O) (pool : PoolMeaning P) (s : Session O P) (k : ℕ) (w : Word) (row : Row 32) (laid : Makes (Fits 32 (length w)) (Symbols w) (λ r. held r ≡ w) (Ok row)) where
+module _ {O P : Type 0} (order : OrderMeaning O) (pool : PoolMeaning P) (s : Session O P) (k : ℕ) (w : Word) (row : Row 32) (laid : IsMade (HasRoom 32 (length w)) (Symbols w) (λ r. held r ≡ w) (Ok row)) where
   abbrev good_word : Passed (word_checks w)
   good_word = (laid.0.1, (laid.1, tt))
 

@@ -3,7 +3,7 @@ use Rattle.std.proofs.Common.{◌≡◌, ℕ, zero, suc, List, [], ◌∷◌, ta
 use Rattle.std.proofs.lemmas.Result.{err_from_is_err_and}
 use Rattle.question.specs.declared.row.WordError.{WordError}
 use Rattle.question.specs.declared.row.WordError.TheVariants.{TooLong as Long, SymbolTooHigh as High}
-use Rattle.question.specs.Rows.{Makes}
+use Rattle.question.specs.Rows.{IsMade}
 use Rattle.session.specs.declared.fault.Fault.{Fault}
 use Rattle.session.specs.declared.fault.Fault.TheVariants.{SymbolTooHigh, TooLong}
 use Rattle.session.specs.Checks.{Check, ◌unless◌, RefusedBy, Checked}
@@ -23,7 +23,7 @@ checked_out cs r P f e h =
     subst (λ x. Checked cs x P) (sym (is ∙ ap Err same)) h
 
 -- Words that make no row and no rule are refused by the check of their lengths or of their symbols.
-pub no_words : {X : Type 0} {fits symbols : Type 0} (Short : Type 0) (Q : X → Type 0) → (Short → fits) → (fits → Short) → (e : WordError) → Makes fits symbols Q (Err e) →
+pub no_words : {X : Type 0} {fits symbols : Type 0} (Short : Type 0) (Q : X → Type 0) → (Short → fits) → (fits → Short) → (e : WordError) → IsMade fits symbols Q (Err e) →
     RefusedBy (fault_of e) (TooLong unless Short ∷ SymbolTooHigh unless symbols ∷ [])
 no_words Short Q back on Long h = inl (λ short. h (back short), refl)
 no_words Short Q back on High (fits, bad) = inr (on fits, inl (bad, refl))

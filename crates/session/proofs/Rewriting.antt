@@ -8,7 +8,7 @@ use Rattle.model.specs.Symbols.{Symbols}
 use Rattle.question.specs.declared.row.Row.{Row}
 use Rattle.question.specs.declared.row.WordError.{WordError}
 use Rattle.question.specs.declared.row.WordError.TheVariants.{TooLong, SymbolTooHigh}
-use Rattle.question.specs.Rows.{held, Fits, Makes}
+use Rattle.question.specs.Rows.{held, HasRoom, IsMade}
 use Rattle.question.specs.Runs.{Word, Rule}
 use Rattle.question.proofs.Laid.{length_held}
 use Rattle.session.specs.declared.fault.Fault.{Fault}
@@ -39,7 +39,7 @@ module _ (r : Rule) (w : Word) where
     -- The right side and what follows the left side, joined in a row.
     pub joined : (right : Word) → right ≡ r.right → Symbols right → Symbols w → (row : Result (Row 32) WordError) (answer : Result (Row 32) Fault) {Q : WordError → Fault → Type 0} →
         ((e : WordError) (f : Fault) → Q e f → f ≡ ResultTooLong) →
-        Makes (Fits 32 (length right + length rest)) (Symbols right × Symbols rest) (λ row. held row ≡ right ++ rest) row →
+        IsMade (HasRoom 32 (length right + length rest)) (Symbols right × Symbols rest) (λ row. held row ≡ right ++ rest) row →
         MatchResult row (λ x. answer ≡ Ok x) (λ e. IsErrAnd answer (Q e)) → Checked (result_checks r w) answer (λ row. held row ≡ made_by r w)
     joined right is good good_word (Ok row) answer by (_, _, made) e =
         let same : held row ≡ made_by r w = made ∙ ap (λ v. v ++ rest) is ∙ result_is in

@@ -3,6 +3,7 @@ ghost use Rattle.std.specs.Prelude.{◌≡◌, ℕ, ◌<◌, ◌≤◌, [], ◌�
 ghost use Rattle.std.specs.List.{AllWithin};
 
 /// The places of a table.
+// Kept as an inner struct with an array: memory is fixed, and one place at a time is lent to be written.
 #[derive(Clone, Copy)]
 struct Rows<T, const N: usize> {
     places: [T; N],

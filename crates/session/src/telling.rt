@@ -6,6 +6,7 @@ ghost use Rattle.session.specs.Limits.{list_used};
 use crate::limits::LIST_USED;
 
 /// Stands in the list where the climb has no rule.
+// Kept as a byte: the list is bytes, and this one is what callers were told.
 const NO_RULE: u8 = 255;
 
 /// Writes the climb to the front of the list.

@@ -16,13 +16,7 @@ fn refused(
     fault: Fault,
     place: usize,
 ) -> Result<(), Fail> {
-    match Head::read(file) {
-        Ok(_) => return Err(Fail::new("not refused")),
-        Err(refusal) => {
-            assert_eq!(rt; refusal.fault, fault);
-            assert_eq!(rt; refusal.place, place);
-        }
-    }
+    assert_eq!(rt; Head::read(file).err(), Some(Refusal { fault, place }));
     let out = report(rt.alloc(), file)?;
     assert!(rt; out.as_slice() == line);
     Ok(())
@@ -31,17 +25,13 @@ fn refused(
 #[test]
 fn good_heads(rt: HostRuntime) -> Result<(), Fail> {
     let full = [1, 0, 2, 3, 2, 2, 0, 3, 2, 1, 15, 3, 0, 3, 0, 6, 15, 4];
-    let Ok(head) = Head::read(&full) else {
-        return Err(Fail::new("a whole head"));
-    };
+    let head = Head::read(&full).map_err(|_| Fail::new("a whole head"))?;
     assert_eq!(rt; head.order.size(), 12);
     assert!(rt; head.pool.holds(&[1, 15]));
     assert!(rt; head.pool.holds(&[2, 2, 15]));
     assert!(rt; !head.pool.holds(&[3, 15]));
     let bare = [1, 0, 2, 65, 0];
-    let Ok(head) = Head::read(&bare) else {
-        return Err(Fail::new("stages alone"));
-    };
+    let head = Head::read(&bare).map_err(|_| Fail::new("stages alone"))?;
     assert_eq!(rt; head.order.size(), 0);
     assert!(rt; !head.pool.holds(&[]));
     let out = report(rt.alloc(), &full)?;

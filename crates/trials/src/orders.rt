@@ -5,6 +5,8 @@ use model::orders::{Flags, Ladder, Order, Pair};
 fn ladders(rt: HostRuntime) {
     let ladder = Ladder(5);
     assert_eq!(rt; ladder.size(), 5);
+    assert!(rt; ladder.has_stage(4));
+    assert!(rt; !ladder.has_stage(5));
     assert!(rt; ladder.at_or_above(4, 4));
     assert!(rt; ladder.at_or_above(4, 0));
     assert!(rt; !ladder.at_or_above(3, 4));

@@ -2,7 +2,7 @@
 use model::book::Book;
 use model::keys::KnownKeys;
 use model::pools::{Either, Pool};
-use model::sieve::Sieve;
+use model::sieve::{Sieve, wanted_where};
 use model::symbols::SymbolSet;
 
 /// Known keys 1 and 2, end F.
@@ -75,6 +75,28 @@ fn sieves(rt: HostRuntime) {
     assert!(rt; KEYS.meets(wanting(&[1])));
     assert!(rt; !KEYS.meets(wanting(&[])));
     assert!(rt; !Book(&[2, 1, 15]).meets(wanting(&[1])));
+}
+
+#[test]
+fn marks_of_words(rt: HostRuntime) {
+    let sieve = wanting(&[0, 1]);
+    assert_eq!(rt; sieve.next(1, 1), 2);
+    assert_eq!(rt; sieve.next(1, 3), 0);
+    assert_eq!(rt; sieve.run(&[2, 1, 15]), 3);
+    assert!(rt; sieve.is_wanted(1));
+    assert!(rt; !sieve.is_wanted(2));
+    let wanted = wanted_where(|mark| mark == 3);
+    assert!(rt; Book(&[3, 2, 1, 15]).meets(wanting(&wanted)));
+    assert!(rt; !KEYS.meets(wanting(&wanted_where(|mark| mark == 4))));
+}
+
+#[test]
+fn missing_pools(rt: HostRuntime) {
+    let none: Option<KnownKeys> = None;
+    assert!(rt; !none.holds(&[15]));
+    assert!(rt; !none.meets(wanting(&[1, 1])));
+    assert!(rt; Some(KEYS).holds(&[15]));
+    assert!(rt; Some(KEYS).meets(wanting(&[0, 1])));
 }
 
 #[test]

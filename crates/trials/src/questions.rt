@@ -4,16 +4,14 @@ use model::keys::KnownKeys;
 use model::orders::Ladder;
 use model::pools::{Either, Pool};
 use model::symbols::SymbolSet;
+use question::row::WordError;
 use question::rule::Rule;
-use question::verdict::{Verdict, judge};
+use question::verdict::{Unjudged, Verdict, judge};
 use std::process::Abort;
 use std::test::Fail;
 
 fn rule(from: u8, left: &[u8], to: u8, right: &[u8]) -> Result<Rule, Fail> {
-    match Rule::new(from, left, to, right) {
-        Ok(rule) => Ok(rule),
-        Err(_) => Err(Fail::new("a rule")),
-    }
+    Rule::new(from, left, to, right).map_err(|_| Fail::new("a rule"))
 }
 
 /// The verdict on `goal` from stage 0 of a ladder of five stages. The cells past the 32,768th stay.
@@ -25,18 +23,16 @@ fn verdict<P: Pool>(
     first: u16,
 ) -> Result<Verdict, Fail> {
     let mut cells = [7; 32_769];
-    let Ok(verdict) = judge(&Ladder(5), pool, rules, 0, goal, &mut cells) else {
-        return Err(Fail::new("a verdict"));
-    };
+    let verdict = judge(&Ladder(5), pool, rules, 0, goal, &mut cells).map_err(|_| Fail::new(
+        "a verdict",
+    ))?;
     assert!(rt; cells[0] == first && cells[32_767] == first && cells[32_768] == 7);
     Ok(verdict)
 }
 
 fn out<P: Pool>(rt: &impl Abort, pool: &P, rules: &[Rule], goal: u8) -> Result<(), Fail> {
-    match verdict(rt, pool, rules, goal, 0)? {
-        Verdict::Out => Ok(()),
-        _ => Err(Fail::new("not out of reach")),
-    }
+    assert_eq!(rt; verdict(rt, pool, rules, goal, 0)?, Verdict::Out);
+    Ok(())
 }
 
 fn by<P: Pool>(
@@ -46,20 +42,16 @@ fn by<P: Pool>(
     goal: u8,
     climb: &[u8],
 ) -> Result<(), Fail> {
-    match verdict(rt, pool, rules, goal, 0)? {
-        Verdict::In(found) => {
-            assert!(rt; found.as_slice() == climb);
-            Ok(())
-        },
-        _ => Err(Fail::new("not in reach")),
-    }
+    let Verdict::In(found) = verdict(rt, pool, rules, goal, 0)? else {
+        return Err(Fail::new("not in reach"));
+    };
+    assert!(rt; found.as_slice() == climb);
+    Ok(())
 }
 
 fn heavy<P: Pool>(rt: &impl Abort, pool: &P, rules: &[Rule], goal: u8) -> Result<(), Fail> {
-    match verdict(rt, pool, rules, goal, 7)? {
-        Verdict::TooHeavy => Ok(()),
-        _ => Err(Fail::new("not too heavy")),
-    }
+    assert_eq!(rt; verdict(rt, pool, rules, goal, 7)?, Verdict::TooHeavy);
+    Ok(())
 }
 
 #[test]
@@ -165,13 +157,18 @@ fn equal_rules(rt: HostRuntime) -> Result<(), Fail> {
 fn short_workspaces_and_long_lists_of_rules(rt: HostRuntime) -> Result<(), Fail> {
     let one = rule(0, &[1], 1, &[2])?;
     let mut cells = [7; 32_767];
-    assert!(rt; judge(&Ladder(5), &Book(&[]), &[one], 0, 1, &mut cells).is_err());
+    let answer = judge(&Ladder(5), &Book(&[]), &[one], 0, 1, &mut cells);
+    assert_eq!(rt; answer, Err(Unjudged::TooFewCells));
     assert!(rt; cells[0] == 7);
     let mut cells = [7; 32_768];
-    assert!(rt; judge(&Ladder(5), &Book(&[]), &[one; 33], 0, 1, &mut cells).is_err());
+    let answer = judge(&Ladder(5), &Book(&[]), &[one; 33], 0, 1, &mut cells);
+    assert_eq!(rt; answer, Err(Unjudged::TooManyRules));
     assert!(rt; cells[0] == 7);
     assert!(rt; judge(&Ladder(5), &Book(&[]), &[one; 32], 0, 1, &mut cells).is_ok());
-    assert!(rt; Rule::new(0, &[1, 2, 3, 4, 5], 1, &[]).is_err());
-    assert!(rt; Rule::new(0, &[], 1, &[16]).is_err());
+    assert_eq!(rt;
+        Rule::new(0, &[1, 2, 3, 4, 5], 1, &[]),
+        Err(WordError::TooLong)
+    );
+    assert_eq!(rt; Rule::new(0, &[], 1, &[16]), Err(WordError::SymbolTooHigh));
     Ok(())
 }

@@ -4,7 +4,7 @@ use Rattle.question.proofs.Saturating.{standing_none, round_ends}
 use Rattle.question.proofs.saturation.run.Goals as goal
 
 pub loop-first-init : goal.loop-first-init
-loop-first-init c = standing_none c.args.table.now c.requires c.args.clauses.now c.none-first.ensures
+loop-first-init c = standing_none c.args.table.now c.requires c.args.clauses.now c.default-first.ensures
 
 pub returns-then-eq-clause-saturated : goal.returns-then-eq-clause-saturated
 returns-then-eq-clause-saturated c =

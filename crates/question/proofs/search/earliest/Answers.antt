@@ -1,9 +1,7 @@
-use Rattle.std.proofs.Common.{refl, arith, length-take}
-use native.Mathlib.Nat.{sub-zero}
+use Rattle.std.proofs.Common.{refl, arith}
 use Rattle.std.proofs.lemmas.Bool.Decides.{not_from_Decides}
-use Rattle.question.proofs.Places.{rise_climbing}
 use Rattle.question.proofs.Nest.{clear_unfit, clear_inside, clear_away, clear_unserved}
-use Rattle.question.proofs.Trails.{Trail.here, Trail.by, trail_rises, none_longer, first_found}
+use Rattle.question.proofs.Trails.{Trail.here, Trail.by, none_longer, first_found}
 use lib.ListN.{length-map}
 use Rattle.question.proofs.search.earliest.Goals as goal
 
@@ -22,14 +20,8 @@ loop-d-preserved-in_default-next-3 g c = clear_unfit _ _ _ _ c.loop-d.invariant 
 pub loop-d-preserved-then-end-goal : goal.loop-d-preserved-then-end-goal
 loop-d-preserved-then-end-goal g c = clear_away _ _ _ _ c.loop-d.invariant c.in-Some-next-3.ensures c.if-end-goal.true refl
 
-pub feasible-requires : goal.feasible-requires
-feasible-requires g c =
-    rise_climbing c.args.rules.now c.args.stage c.args.goal c.requires _
-    (rw sub-zero at (trail_rises _ _ _ _ (by c.loop-a.invariant c.in-Some.ensures (by c.loop-b.invariant c.in-Some-next.ensures (by c.loop-c.invariant c.in-Some-next-2.ensures (by c.loop-d.invariant c.in-Some-next-3.ensures (here c.if-end-goal.false)))))))
-    (simp length-take (omega arith))
-
 pub loop-d-preserved : goal.loop-d-preserved
-loop-d-preserved g c = clear_unserved _ _ _ _ c.loop-d.invariant (not_from_Decides _ c.feasible.ensures.decides c.if-feasible.false) refl
+loop-d-preserved g c = clear_unserved _ _ _ _ c.loop-d.invariant (not_from_Decides _ (rw c.from.ensures at c.feasible.ensures.decides) c.if-feasible.false) refl
 
 pub loop-c-preserved : goal.loop-c-preserved
 loop-c-preserved g c = clear_inside _ _ _ _ c.loop-c.invariant c.in-Some-next-2.ensures c.loop-d.invariant (rw length-map (omega (arith, c.choices-d-end.ensures))) (omega arith)
@@ -47,4 +39,4 @@ pub returns-then-feasible : goal.returns-then-feasible
 returns-then-feasible g c =
     first_found _ _ _ _ _ refl (omega arith) c.loop-n.invariant
     (by c.loop-a.invariant c.in-Some.ensures (by c.loop-b.invariant c.in-Some-next.ensures (by c.loop-c.invariant c.in-Some-next-2.ensures (by c.loop-d.invariant c.in-Some-next-3.ensures (here c.if-end-goal.false)))))
-    (c.feasible.ensures.decides.0 c.if-feasible.true)
+    (rw c.from.ensures at (c.feasible.ensures.decides.0 c.if-feasible.true))

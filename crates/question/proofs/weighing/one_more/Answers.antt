@@ -16,8 +16,8 @@ loop-k-preserved c = (
       let rules = c.args.rules.now in
       let rule = c.index-rules-k.result in
       let is = rule_at rules c.loop-k.k rule c.loop-k-test.true c.index-rules-k.is in
-      rule_more (rules_of rules) _ f c.loop-k.k rule.from _ _ c.by_rule.result _ (omega arith) (ap (λ r. r.from) is)
-      (s.at rule.to (omega arith) ∙ ap (λ p. capped (f p)) (sym (ap (λ r. r.to) is))) c.by_rule.ensures (c.max.ensures ∙ max_larger (get_or c.loop-k.longer rule.from None) c.by_rule.result) (c.loop-k.invariant.1 f s),
+      rule_more (rules_of rules) _ f c.loop-k.k c.from-from.result _ _ c.by_rule.result _ (rw c.from-from.ensures (omega arith)) (ap (λ r. r.from) is ∙ sym c.from-from.ensures)
+      (rw c.from.ensures (s.at rule.to (omega arith) ∙ ap (λ p. capped (f p)) (sym (ap (λ r. r.to) is)))) c.by_rule.ensures (c.max.ensures ∙ max_larger (get_or c.loop-k.longer c.from-from.result None) c.by_rule.result) (c.loop-k.invariant.1 f s),
 )
 
 pub returns : goal.returns

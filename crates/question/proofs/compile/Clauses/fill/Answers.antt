@@ -4,7 +4,7 @@ use Rattle.question.specs.Coding.{clauses_of, suppliers_of, Coding, Coding.none}
 use Rattle.question.specs.Plans.{rules_in, supplier_in, pair_horns}
 use Rattle.question.proofs.Adding.{adding_next, adding_skip, adding_end}
 use Rattle.question.proofs.Carried.{coding_right}
-use Rattle.question.proofs.Pairs.{pairs_first, pairs_next, pairs_end, horns_end}
+use Rattle.question.proofs.Pairs.{pairs_first, pairs_next, horns_end}
 use Rattle.question.proofs.compile.Clauses.fill.Goals as goal
 
 pub loop-j-init : goal.loop-j-init
@@ -18,12 +18,6 @@ loop-j-preserved c =
     let i = c.loop-i.i in
     let j = c.loop-j.j in
     adding_next c.loop-j.invariant (pair_horns plan i j) _ 132 _ _ (pairs_next (rules_in plan) plan.climb.now (supplier_in plan) i j c.loop-j-test.true) (omega (arith, c.loop-j.auto.j)) c.add_pair.ensures
-
-pub loop-i-preserved : goal.loop-i-preserved
-loop-i-preserved c =
-    let plan = c.args.plan.now in
-    adding_skip c.loop-j.invariant _ _ (pairs_end (rules_in plan) plan.climb.now (supplier_in plan) c.loop-i.i c.loop-j.j c.loop-j-test.false)
-    (omega (arith, c.loop-j.auto.j, c.loop-j.auto.j-end, c.loop-i-test.true, plan.ready.climbing.few))
 
 pub returns : goal.returns
 returns c =

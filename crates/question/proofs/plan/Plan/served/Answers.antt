@@ -19,7 +19,7 @@ loop-k-preserved c =
     let plan = c.args.self.now in
     let k = c.loop-k.k in
     let Next = Serving (bits_of plan.bits.now) (supplied_by (suppliers_of plan.suppliers.now)) (length plan.climb.now) c.args.j (k + 1) in
-    let is = c.eq.ensures ∙ supplied_is plan.suppliers.now k c.args.j _ (omega (arith, plan.ready.each, length-map plan.suppliers.now supplier_of)) in
+    let is = rw c.from.ensures at c.eq.ensures ∙ supplied_is plan.suppliers.now k c.args.j _ (omega (arith, plan.ready.each, length-map plan.suppliers.now supplier_of)) in
     elim c.if-eq.branch [
       | then-eq w ↦ subst Next (sym w.set-is) (serving_next c.loop-k.invariant (omega arith) _ (sym w.if-eq.true ∙ is) w.only-set.ensures)
       | else-eq w ↦ subst Next (sym w.set-is) (serving_skip c.loop-k.invariant (omega arith) (sym w.if-eq.false ∙ is))

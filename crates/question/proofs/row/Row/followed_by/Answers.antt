@@ -10,4 +10,4 @@ invariant_of-result g c =
     let both =
     laid_row g.row.N _ (behind row word _ _ (omega arith) c.copy_from_slice.ensures.after) (length_behind row word)
     (omega (arith, length_held row)) (All-append (λ s. s < 16) _ word (held_symbols row) c.requires.symbols) in
-    record { short = both.short; wide = both.wide; below = both.below; blank = both.blank }
+    rw c.from-start.ensures (record { short = both.short; wide = both.wide; below = both.below; blank = both.blank })
