@@ -46,6 +46,8 @@ pub fn stages_line(size: u16, buffer: &mut [u8]) -> Result<usize, LineShort>
     end(line, buffer)
 }
 
+// Kept as a byte, here and below: any number may be told, and the enums of faults lie in two crates. Number, place and buffer
+// are kept as three: a struct of them would be built at each call from the same three.
 /// A word, the number of a refusal as a byte, and its place.
 fn refusal_line(word: &str, number: u8, place: usize, buffer: &mut [u8]) -> Result<usize, LineShort>
     requires { length word.now ≤ 5 }
@@ -60,7 +62,6 @@ fn refusal_line(word: &str, number: u8, place: usize, buffer: &mut [u8]) -> Resu
 }
 
 /// The line of a refusal that ends the report.
-// Kept as a byte: any number may be told, and the enums of faults lie in two crates.
 pub fn stop_line(number: u8, place: usize, buffer: &mut [u8]) -> Result<usize, LineShort>
     ensures { LineOut (stop_line number place) buffer.old result buffer.new }
 {
@@ -68,7 +69,6 @@ pub fn stop_line(number: u8, place: usize, buffer: &mut [u8]) -> Result<usize, L
 }
 
 /// The line of a refusal after which the report goes on.
-// Kept as a byte, as above.
 pub fn no_line(number: u8, place: usize, buffer: &mut [u8]) -> Result<usize, LineShort>
     ensures { LineOut (no_line number place) buffer.old result buffer.new }
 {

@@ -23,8 +23,6 @@ pub fn report(heap: Global, file: &[u8]) -> Result<Vec<u8>, AllocError>
     ensures { IfOk result (λ out. Reported file.now out.items) × OneReport file.now }
 {
     let mut line = [0; LINE_ROOM];
-    let Ok(len) = head_line(file, &mut line) else {
-        unreachable()
-    };
+    let len = head_line(file, &mut line).unwrap();
     Vec::from_slice(heap, &line[..len])
 }

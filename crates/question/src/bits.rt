@@ -32,7 +32,8 @@ impl Slot {
     ghost use Rattle.question.specs.Bits.{same_bit, bit_of};
 
     /// Whether this is that bit.
-    // Kept as three values here and below: a struct of them would be built at each call from the same three.
+    // Kept beside the derived equality, and as three values here and below: the word is a slice, which a slot would copy, and a
+    // struct with the slice would be built at each call from the same three.
     fn is(&self, at: u8, goal: u8, begun: &[u8]) -> bool
         ensures { result ≡ same_bit (bit at goal begun.now) (bit_of self.now) }
     {
@@ -80,6 +81,7 @@ impl Bits {
         1 << self.number(at, goal, begun)
     }
 
+    // `at` and `n` are kept as two numbers, here and below: they are the range of the loop over rules.
     /// Adds the bits with nothing read, and with what the stage's staying rules begin to read.
     fn put_stage(&mut self, rules: &[Rule], stage: u8, at: u8, n: u8) -> Result<(), TooHeavy>
         requires { at < n }

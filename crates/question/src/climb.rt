@@ -24,6 +24,7 @@ impl Climb {
 }
 
 /// Climbs are equal where their numbers are, whatever stands past them.
+// Kept by hand: a derive would compare what stands past them.
 impl PartialEq for Climb {
     ghost use Rattle.std.specs.Prelude.{nat_eq};
     ghost use Rattle.std.specs.Cmp.{on_per, partial_equiv_from_equiv};

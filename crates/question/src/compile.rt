@@ -54,6 +54,7 @@ impl Clauses {
     }
 
     /// Adds the clauses at the stage before rule `i` of words that rule `j` is to use.
+    // The room is kept as a clause, here and below: each function needs another.
     fn add_pair(&mut self, plan: &Plan<'_>, i: u8, j: u8)
         requires pair { (i ≤ j) × (j < length plan.now.climb.now) }
         requires room { length (clauses_of self.old) + 132 ≤ 2112 }

@@ -19,6 +19,7 @@ use model::pools::Pool;
 use model::sieve::{MARKS, Sieve, wanted_where};
 
 /// The list in which the marks with this bit are wanted.
+// The bound on bits is kept as a clause, as in `mark`.
 fn wanting(bit: u8) -> [u8; MARKS]
     requires { bit < 16 }
     ensures { (m : ℕ) → m < 2048 → Wanted result m ↔ Has m bit }

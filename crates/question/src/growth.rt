@@ -49,7 +49,8 @@ impl Clause {
     }
 }
 
-// What a clause adds is said in one `Turn` for one cell, for each cell, and for a row: it is the promise itself.
+// What a clause adds is said in one `Turn` for one cell, for each cell, and for a row: it is the promise itself. The bound on
+// symbols is kept as a clause, as in `table`.
 impl Table<'_> {
     /// Adds what the clause gives to the cell of `mark` and `symbol`, and says whether the cell changed.
     fn raise(&mut self, clause: &Clause, mark: Mark, symbol: u8) -> bool

@@ -26,6 +26,7 @@ impl Plan<'_> {
     ghost use Rattle.question.specs.Plans.{rules_in, served_in};
 
     /// Rule `i` of the climb.
+    // That `i` is a place of the climb is kept as a clause, here and in `compile`: places are counted by loops over its length.
     pub(crate) fn rule(&self, i: u8) -> Rule
         requires { i < length self.now.climb.now }
         ensures { rule_of result ≡ changing_at (rules_in self.now) self.now.climb.now i }

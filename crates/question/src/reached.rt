@@ -8,7 +8,7 @@ use model::sieve::MARKS;
 
 /// All marks: first the `len` that are reached, in the order in which they were, and then the others. `place` says where
 /// in `list` a mark stands.
-// Kept as two arrays: each says where in the other a number stands, so that a mark is found and added without a search.
+// Kept as two arrays of fixed size: nothing is allocated, and each says where in the other a number stands.
 #[derive(Drop)]
 pub(crate) struct Reached {
     list: [u16; MARKS],
@@ -50,7 +50,7 @@ impl Reached {
     pub(crate) fn get(&self, i: u16) -> Option<Mark>
         ensures { MatchOption result (self.now.len ≤ i) (λ mark. (i < self.now.len) × (mark.bits ≡ slice_index self.now.list i)) }
     {
-        // Kept as a test: a closure over what `get` finds would have to show of any number that it is a mark.
+        // Kept as a test: a closure that makes the mark would need clauses of its own for what the list is known to have.
         if i >= self.len {
             return None;
         }

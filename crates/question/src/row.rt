@@ -37,6 +37,7 @@ impl<const N: usize> Row<N> {
     }
 
     /// The row's word with `word` after it.
+    // That bytes are symbols is kept as a clause, here and below: words come as bytes from pools, whose law it is.
     pub(crate) fn followed_by(&self, word: &[u8]) -> Row<N>
         requires fits { (length (held self.now) + length word.now ≤ N) × (N ≤ 255) }
         requires symbols { Symbols word.now }

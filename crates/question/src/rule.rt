@@ -46,6 +46,7 @@ impl Rule {
 }
 
 /// Rule `i` of a climb.
+// Rules and climb are kept as two, and a place of the climb as a number with a clause: `Plan` joins them once there are bits.
 pub(crate) fn changing(rules: &[Rule], climb: &[u8], i: u8) -> Rule
     requires { (i < length climb.now) × (slice_index climb.now i < length rules.now) }
     ensures { rule_of result ≡ changing_at (rules_of rules.now) climb.now i }

@@ -75,6 +75,7 @@ fn one_more(rules: &[Rule], n: u8, weights: &Weights) -> Weights
 }
 
 /// Whether some rise from `stage` to `goal` is too heavy.
+// Rules, stage and goal are kept as in `search`, with the number of rules as a clause.
 pub(crate) fn is_heavy(rules: &[Rule], stage: u8, goal: u8) -> bool
     requires { length rules.now ≤ 32 }
     ensures { NeverLong (rules_of rules.now) → Decides result (Heavy (rules_of rules.now) stage goal) }

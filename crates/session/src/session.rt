@@ -29,7 +29,7 @@ pub enum News {
 }
 
 /// Whether some run ends at a goal; and the number of rules in the earliest climb of those that do.
-// Kept beside Option<u8>: its names are the words of the report.
+// Kept beside Option<u8>: its names are the answers to an ask, out of reach and in reach.
 #[derive(Clone, Copy, PartialEq, Eq, Debug)]
 pub enum Reach {
     Out,

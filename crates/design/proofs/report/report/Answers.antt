@@ -7,5 +7,5 @@ use Rattle.design.proofs.report.report.Goals as goal
 
 pub returns : goal.returns
 returns c =
-    let line = c.in-Ok.ensures in
+    let line = rw c.unwrap-len.ensures at c.head_line.ensures in
     (IfOk-weaker c.from_slice.result _ _ (λ out is. subst (Reported c.args.file.now) (sym (is ∙ put_front line.2)) line.1) c.from_slice.ensures.items, one_report _)
