@@ -1,7 +1,7 @@
 //! Books: words written out in bytes.
 ghost use Rattle.std.specs.Prelude.{◌≡◌, ℕ, length, Decides, MatchOption};
 ghost use Rattle.std.specs.Iterator.{at_most};
-ghost use Rattle.model.specs.Books.{Opens, Spent, BookWord};
+ghost use Rattle.model.specs.Books.{Opens, Spent, Entry, BookWord};
 ghost use Rattle.model.specs.Sieves.{Caught};
 ghost use Rattle.model.specs.Symbols.{Symbols};
 
@@ -48,6 +48,13 @@ impl<'a> Book<'a> {
     {
         Entries(self.0)
     }
+
+    /// Whether `word` is one of them.
+    fn has_entry(&self, word: &[u8]) -> bool
+        ensures { Decides result (Entry word.now self.now.0.now) }
+    {
+        self.entries().any(|entry| entry == word)
+    }
 }
 
 impl<'a> Pool for Book<'a> {
@@ -56,7 +63,7 @@ impl<'a> Pool for Book<'a> {
     ghost symbols = { λ _ _ h. h.1 };
 
     fn holds(&self, word: &[u8]) -> bool {
-        all_symbols(word) && self.entries().any(|entry| entry == word)
+        self.has_entry(word) && all_symbols(word)
     }
 
     fn meets(&self, sieve: Sieve<'_>) -> bool {
