@@ -7,7 +7,7 @@ ghost use Rattle.model.specs.Symbols.{Symbols, InSet};
 pub fn all_symbols(word: &[u8]) -> bool
     ensures { Decides result (Symbols word.now) }
 {
-    word.iter().all(|byte| *byte < 16)
+    word.iter().position(|byte| *byte > 15).is_none()
 }
 
 /// A set of symbols: bit `s` says whether symbol `s` is in it.
@@ -26,6 +26,6 @@ impl SymbolSet {
     pub fn has_all(self, word: &[u8]) -> bool
         ensures { Decides result (AllByRecursion (InSet self.0) word.now) }
     {
-        word.iter().all(|symbol| self.has(*symbol))
+        word.iter().position(|symbol| !self.has(*symbol)).is_none()
     }
 }
