@@ -50,7 +50,7 @@ pub fn lead_to_wanted(sieve: Sieve<'_>, set: SymbolSet) -> [u8; MARKS]
     ensures { (m : ℕ) → m < 2048 → Wanted result m ↔ Lead set.0 sieve.entry.table.now sieve.entry.wanted.now m }
 {
     let closing = Closing { sieve, set };
-    let mut list = wanted_where(|m| sieve.is_wanted(m));
+    let mut list = wanted_where(&sieve);
     while closing.widen(&mut list) {}
     list
 }

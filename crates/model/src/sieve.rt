@@ -1,6 +1,6 @@
 //! Sieves: a table of marks that words are read through.
-ghost use Rattle.std.specs.Prelude.{◌≡◌, Decides};
-ghost use Rattle.model.specs.Sieves.{mark, next, run, Wanted, WantedWhere, Caught};
+ghost use Rattle.std.specs.Prelude.{◌≡◌, ℕ, ◌<◌, ◌↔◌, Decides};
+ghost use Rattle.model.specs.Sieves.{mark, next, run, Wanted, Caught};
 
 /// Marks are below this number.
 pub const MARKS: usize = 2048;
@@ -62,14 +62,32 @@ impl Sieve<'_> {
     }
 }
 
+/// A test of marks.
+pub trait MarkTest {
+    // of which marks it holds
+    ghost means: { Self → ℕ → Type 0 };
+
+    /// Whether it holds of `m`.
+    fn holds(&self, m: u16) -> bool
+        ensures { Decides result (means self.now m) };
+}
+
+/// A sieve tests whether a mark is wanted.
+impl MarkTest for Sieve<'_> {
+    ghost means = { λ s. Wanted s.wanted.now };
+
+    fn holds(&self, m: u16) -> bool {
+        self.is_wanted(m)
+    }
+}
+
 /// The marks of which the test holds, as a list of wanted marks.
-pub fn wanted_where<F: Fn(u16) -> bool>(is_wanted: F) -> [u8; MARKS]
-    requires { F.IsAlwaysCallable is_wanted }
-    ensures { WantedWhere (F.post is_wanted) result }
+pub fn wanted_where<T: MarkTest>(test: &T) -> [u8; MARKS]
+    ensures { (m : ℕ) → m < 2048 → Wanted result m ↔ T.MarkTest.means test.now m }
 {
     let mut wanted = [0; MARKS];
     for (m, byte) in wanted.iter_mut().enumerate() {
-        *byte = u8::from(is_wanted(m as u16));
+        *byte = u8::from(test.holds(m as u16));
     }
     wanted
 }

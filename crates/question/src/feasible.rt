@@ -1,6 +1,5 @@
 //! Whether some run has a given climb.
 ghost use Rattle.std.specs.Prelude.{◌≡◌, ℕ, ◌<◌, ◌≤◌, ◌↔◌, ◌/◌, ◌%◌, [], ◌∷◌, length, drop, None, Decides};
-ghost use Rattle.model.specs.Sieves.{Wanted};
 ghost use Rattle.question.specs.Accepts.{Has};
 ghost use Rattle.question.specs.Coding.{suppliers_of};
 ghost use Rattle.question.specs.Plans.{rules_in};
@@ -16,15 +15,21 @@ use crate::rule::Rule;
 use crate::saturation::saturate;
 use crate::table::Cells;
 use model::pools::Pool;
-use model::sieve::{MARKS, Sieve, wanted_where};
+use model::sieve::{MarkTest, Sieve, wanted_where};
 
-/// The list in which the marks with this bit are wanted.
-// The bound on bits is kept as a clause, as in `mark`.
-fn wanting(bit: u8) -> [u8; MARKS]
-    requires { bit < 16 }
-    ensures { (m : ℕ) → m < 2048 → Wanted result m ↔ Has m bit }
-{
-    wanted_where(|mark| has(mark, bit))
+/// The test whether a mark has the bit.
+#[derive(Clone, Copy)]
+struct WithBit {
+    bit: u8,
+    ghost below: { bit < 16 },
+}
+
+impl MarkTest for WithBit {
+    ghost means = { λ test m. Has m test.bit };
+
+    fn holds(&self, m: u16) -> bool {
+        has(m, self.bit)
+    }
 }
 
 // The table and its first mark are kept as two: both go straight into a sieve.
@@ -33,7 +38,7 @@ fn accepts_some<Q: Pool>(pool: &Q, table: &[u16], first: u16, bit: u8) -> bool
     requires { bit < 16 }
     ensures { Accepted (Q.Pool.words pool.now) table.now first bit result }
 {
-    let wanted = wanting(bit);
+    let wanted = wanted_where(&WithBit { bit });
     pool.meets(Sieve {
         table,
         first,

@@ -1,8 +1,10 @@
 //! Books, known keys and both, held to words and to sieves.
+ghost use Rattle.std.specs.Prelude.{◌≡◌};
+
 use model::book::Book;
 use model::keys::KnownKeys;
 use model::pools::{Either, Pool};
-use model::sieve::{Sieve, wanted_where};
+use model::sieve::{MarkTest, Sieve, wanted_where};
 use model::symbols::SymbolSet;
 
 /// Known keys 1 and 2, end F.
@@ -22,6 +24,18 @@ fn wanting(wanted: &[u8]) -> Sieve<'_> {
         table: &TABLE,
         first: 0,
         wanted,
+    }
+}
+
+/// The test for one mark.
+#[derive(Clone, Copy)]
+struct Only(u16);
+
+impl MarkTest for Only {
+    ghost means = { λ test m. m ≡ test.0 };
+
+    fn holds(&self, m: u16) -> bool {
+        m == self.0
     }
 }
 
@@ -85,9 +99,9 @@ fn marks_of_words(rt: HostRuntime) {
     assert_eq!(rt; sieve.run(&[2, 1, 15]), 3);
     assert!(rt; sieve.is_wanted(1));
     assert!(rt; !sieve.is_wanted(2));
-    let wanted = wanted_where(|mark| mark == 3);
+    let wanted = wanted_where(&Only(3));
     assert!(rt; Book(&[3, 2, 1, 15]).meets(wanting(&wanted)));
-    assert!(rt; !KEYS.meets(wanting(&wanted_where(|mark| mark == 4))));
+    assert!(rt; !KEYS.meets(wanting(&wanted_where(&Only(4)))));
 }
 
 #[test]

@@ -3,5 +3,5 @@ use Rattle.question.proofs.feasible.accepts_some.Goals as goal
 
 pub returns : goal.returns
 returns g c =
-    meets_accepts _ (g.met.Q.Pool.symbols c.args.pool.now) c.args.table.now c.wanting-wanted.result c.args.first c.args.bit c.meets.result
-    c.wanting-wanted.ensures c.meets.ensures
+    meets_accepts _ (g.met.Q.Pool.symbols c.args.pool.now) c.args.table.now c.wanted_where-wanted.result c.args.first c.args.bit c.meets.result
+    c.wanted_where-wanted.ensures c.meets.ensures
