@@ -1,5 +1,6 @@
 -- The records of a head, as the reader takes them.
-use Rattle.std.proofs.Common.{◌≡◌, ℕ, ◌+◌, ◌≤◌, List, [], ◌++◌, length, Some, Ok, Err, Option, unwrap_or, sym, refl, ap, ◌∙◌, subst, inl, inr, arith, Bor}
+use Rattle.std.proofs.Common.{◌≡◌, ℕ, ◌+◌, ◌<◌, ◌≤◌, Bool, false, List, [], ◌++◌, length, Some, Ok, Err, Option, unwrap_or, Decides, sym, refl, ap, ◌∙◌, subst, inl, inr, arith, Bor}
+use Rattle.std.proofs.lemmas.Bool.Decides.{not_from_Decides}
 use Rattle.std.specs.Option.{option_map}
 use Rattle.model.specs.declared.keys.KnownKeys.{KnownKeys}
 use Rattle.model.specs.declared.orders.Flags.{Flags}
@@ -59,3 +60,6 @@ module _ (file : List ℕ) (first second third last : Reader) (small : length fi
         },
         record { ladder = refl; flags = refl; book = b.1; keys = refl; rest = refl; place = omega (arith, s.1, part.place, k.place) },
       )
+
+pub short_enough : (file : List ℕ) {r : Bool} → Decides r (16384 < length file) → r ≡ false → length file ≤ 16384
+short_enough file d e = omega (arith, not_from_Decides _ d e)

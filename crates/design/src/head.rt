@@ -23,6 +23,13 @@ pub struct Head<'a> {
     pub rest: Reader<'a>,
 }
 
+/// Whether the file is longer than a file may be.
+fn is_too_long(file: &[u8]) -> bool
+    ensures { Decides result (16384 < length file.now) }
+{
+    file.len() > FILE_LIMIT
+}
+
 /// Whether a file may begin with a record of this tag: only with stages.
 fn judge_first(tag: u8, place: usize) -> Result<(), Refusal>
     ensures { FirstJudged tag place result }
@@ -78,7 +85,7 @@ impl<'a> Head<'a> {
     pub fn read(file: &'a [u8]) -> Result<Head<'a>, Refusal>
         ensures { HeadRead file.now result × OneAnswer file.now result }
     {
-        if file.len() > FILE_LIMIT {
+        if is_too_long(file) {
             return Err(Fault::FileTooLong.at(0));
         }
         let mut reader = Reader::new(file);
