@@ -39,8 +39,6 @@ pub capped_over : (o : Option ℕ) → Over o → Over (capped o)
 capped_over None h = h
 capped_over (Some w) h = omega arith
 
--- A height above the limit makes the whole weight so.
-
 -- The rises that begin with rule number k.
 module _ (rules : List Rule) (n k : ℕ) where
   by_rule_shut : (f : ℕ → Option ℕ) (p : ℕ) → ((rule rules k).from ≡ p → (rule rules k).to ≡ p) → by_rule rules n f p k ≡ None

@@ -19,7 +19,8 @@ const OVER: usize = LIMIT + 1;
 const STAGES: usize = 256;
 
 /// A weight for each stage that has one.
-type Weights = [Option<usize>; STAGES];
+// Kept in bytes: it is filled and copied once for each rule, and as `usize` it takes eight times the room.
+type Weights = [Option<u8>; STAGES];
 
 /// How many different beginnings the stage's staying rules have, or `OVER`.
 fn height(rules: &[Rule], stage: u8) -> usize
@@ -41,14 +42,14 @@ fn adds(rules: &[Rule], k: usize, n: u8) -> usize
 }
 
 /// Whether there is a weight above the limit.
-fn is_over(weight: Option<usize>) -> bool
+fn is_over(weight: Option<u8>) -> bool
     ensures { Decides result (Over weight) }
 {
-    weight.is_some_and(|weight| weight > LIMIT)
+    weight.is_some_and(|weight| usize::from(weight) > LIMIT)
 }
 
 /// The weight of the heaviest rise that begins with rule `k`, where `rest` is that of the `n` rules after it.
-fn by_rule(rules: &[Rule], k: usize, n: u8, rest: Option<usize>) -> Option<usize>
+fn by_rule(rules: &[Rule], k: usize, n: u8, rest: Option<u8>) -> Option<u8>
     requires { k < length rules.now }
     ensures { result ≡ capped (by_rule (rules_of rules.now) n (λ _. rest) (rule (rules_of rules.now) k).from k) }
 {
@@ -57,7 +58,7 @@ fn by_rule(rules: &[Rule], k: usize, n: u8, rest: Option<usize>) -> Option<usize
         return None;
     }
     let rest = rest?;
-    Some(adds(rules, k, n).saturating_add(rest).min(OVER))
+    Some((adds(rules, k, n) + usize::from(rest)).min(OVER) as u8)
 }
 
 /// By stage, the weights of the heaviest rises of one rule more, from those of `n` rules.
