@@ -1,13 +1,9 @@
 -- The bits that a rule's word has to serve are gathered in a set.
-use Rattle.std.proofs.Common.{◌≡◌, ℕ, suc, ◌+◌, ◌<◌, Bool, true, false, cond, eqb, List, [], ◌∷◌, ◌++◌, length, get_or, map, filter, Option, Some, None, sym, ap, ◌∙◌, append_assoc, add-one}
-use Rattle.std.specs.Option.{option_eq}
-use Rattle.std.proofs.Math.Dec.{eqb-zero-suc, eqb-suc-suc}
-use Rattle.std.proofs.lemmas.List.{get_or-map}
+use Rattle.std.proofs.Common.{◌≡◌, ℕ, suc, ◌+◌, ◌<◌, Bool, true, false, cond, eqb, List, [], ◌∷◌, ◌++◌, length, map, filter, sym, ap, ◌∙◌, append_assoc, add-one}
 use lib.Bits.{bit_or}
 use Rattle.question.specs.Lists.{between}
 use Rattle.question.specs.Horns.{Bit, base, served}
-use Rattle.question.specs.Supply.{supplied_by}
-use Rattle.question.specs.Coding.{SetOf, supplier_of, suppliers_of}
+use Rattle.question.specs.Coding.{SetOf}
 use Rattle.question.proofs.Members.{between_first}
 use Rattle.question.proofs.Sets.{set_none, set_or}
 
@@ -46,11 +42,3 @@ module _ {all : List Bit} {supplier : ℕ → ℕ} {n j k set : ℕ} (inv : Serv
 
   pub serving_skip : false ≡ eqb (supplier k) (suc j) → Serving all supplier n j (k + 1) set
   serving_skip e = record { done = inv.done; has = inv.has; rest = ap (λ l. inv.done ++ l) (sym (by_test false e)) ∙ inv.rest }
-
--- What the code finds out of a supplier.
-pub supplied_is : (suppliers : List (Option ℕ)) (k j : ℕ) (d : Option ℕ) → k < length suppliers → option_eq eqb (get_or suppliers k d) (Some j) ≡ eqb (supplied_by (suppliers_of suppliers) k) (suc j)
-supplied_is suppliers k j d less = same (get_or suppliers k d) ∙ ap (λ s. eqb s (suc j)) (sym (get_or-map supplier_of suppliers k d 0 less))
-  where
-    same : (s : Option ℕ) → option_eq eqb s (Some j) ≡ eqb (supplier_of s) (suc j)
-    same None = sym (eqb-zero-suc j)
-    same (Some i) = sym (eqb-suc-suc i j)

@@ -18,12 +18,12 @@ pub(crate) struct Plan<'a> {
 }
 
 impl Plan<'_> {
-    ghost use Rattle.std.specs.Prelude.{◌≡◌, ◌<◌, length};
+    ghost use Rattle.std.specs.Prelude.{◌≡◌, suc, ◌<◌, length, ◌==◌};
     ghost use Rattle.question.specs.Rises.{changing as changing_at};
     ghost use Rattle.question.specs.Rules.{rule_of};
     ghost use Rattle.question.specs.Coding.{SetOf};
     ghost use Rattle.question.specs.Bits.{bits_of};
-    ghost use Rattle.question.specs.Plans.{rules_in, served_in};
+    ghost use Rattle.question.specs.Plans.{rules_in, supplier_in, served_in};
 
     /// Rule `i` of the climb.
     // That `i` is a place of the climb is kept as a clause, here and in `compile`: places are counted by loops over its length.
@@ -34,6 +34,14 @@ impl Plan<'_> {
         changing(self.rules, self.climb, i)
     }
 
+    /// Whether rule `j` supplies rule `k`.
+    fn supplies(&self, j: u8, k: u8) -> bool
+        requires { k < length self.now.climb.now }
+        ensures { result ≡ (supplier_in self.now k == suc j) }
+    {
+        self.suppliers[usize::from(k)] == Some(j)
+    }
+
     /// The set of the bits that what rule `j` makes has to serve.
     pub(crate) fn served(&self, j: u8) -> u16
         requires { j < length self.now.climb.now }
@@ -42,7 +50,7 @@ impl Plan<'_> {
         // Kept as a loop: as a `filter` and a `fold`, it stayed open that the fold's closure may be called for each rule.
         let mut set = 0;
         for k in j + 1..self.climb.len() as u8 {
-            if self.suppliers[usize::from(k)] == Some(j) {
+            if self.supplies(j, k) {
                 set |= self.bits.only(j + 1, k, &[]);
             }
         }
