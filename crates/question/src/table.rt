@@ -65,8 +65,10 @@ impl<'a> Table<'a> {
         ensures { result.bits ≡ read_from self.now.cells.now word.now from.bits }
     {
         let mut mark = from;
-        for symbol in word.iter().rev() {
+        let mut rest = word;
+        while let [front @ .., symbol] = rest {
             mark = self.next(mark, *symbol);
+            rest = front;
         }
         mark
     }
