@@ -10,9 +10,8 @@
 //! | `keys` | a pool of known keys round an end symbol |
 //! | `closing` | the marks from which known keys lead to a wanted one |
 //!
-//! Nothing here allocates, and no public call has a premise, but that a test which is passed in may
-//! be called: any bytes, any sieve and any stage number get the answer that the definitions in
-//! `specs/` give.
+//! Nothing here allocates, and no public call has a premise: any bytes, any sieve and any stage
+//! number get the answer that the definitions in `specs/` give.
 #![tactic(auto)]
 
 pub mod book;
