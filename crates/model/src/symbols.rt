@@ -3,6 +3,8 @@ ghost use Rattle.std.specs.Prelude.{Decides};
 ghost use Rattle.std.specs.List.{AllByRecursion};
 ghost use Rattle.model.specs.Symbols.{Symbols, InSet};
 
+// By the place of a byte that fails, here and below: the compiler looks for it in many bytes at once where it knows the memory,
+// and with `all` it does not.
 /// Whether each byte of `word` is a symbol.
 pub fn all_symbols(word: &[u8]) -> bool
     ensures { Decides result (Symbols word.now) }

@@ -10,8 +10,8 @@ pub(crate) struct Mark {
 }
 
 /// Whether the bit is in the set.
-// Kept beside `SymbolSet`'s test, which is of symbols. The bound on bits is kept as a clause: it stands at three functions whose
-// bits are counted, by loops and by `Clause`.
+// Kept beside `SymbolSet`'s test, which is of symbols. The bound on bits is kept as a clause, here and in
+// `feasible`: bits are counted, by loops and by `Clause`.
 pub(crate) fn has(set: u16, bit: u8) -> bool
     requires { bit < 16 }
     ensures { Decides result (Has set bit) }

@@ -65,6 +65,8 @@ impl<'a> Table<'a> {
         ensures { result.bits ≡ read_from self.now.cells.now word.now from.bits }
     {
         let mut mark = from;
+        // Kept as what is left, and not as an iterator: so the proof speaks of symbols, and a word that is read the other way is refused
+        // by what it gives.
         let mut rest = word;
         while let [front @ .., symbol] = rest {
             mark = self.next(mark, *symbol);

@@ -11,6 +11,8 @@ use std::io::{Read, Write};
 /// One byte more than a file may have, so that a file that is too long shows.
 const ROOM: usize = FILE_LIMIT + 1;
 
+// Kept as a loop over a buffer of fixed size: reading to the end into a list asks for memory and reads in small pieces, which cuts
+// a design that comes as one message.
 /// Reads until the buffer is full or the input ends, and answers how many bytes came.
 fn fill<R: Read>(input: &mut R, buffer: &mut [u8]) -> io::Result<usize>
     ensures { IfOk result (λ n. n ≤ length buffer.new) }
