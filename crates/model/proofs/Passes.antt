@@ -1,5 +1,6 @@
 -- A pass over the marks, which takes some of them into a list.
 use Rattle.std.proofs.Common.{◌≡◌, ℕ, zero, suc, ◌+◌, ◌<◌, Bool, true, false, cond, eqb, ◌≢◌, List, [], ◌∷◌, length, get_or, set, Decides, sym, refl, ap, ◌∙◌, subst, ⊎_elim, arith}
+use mir.Val.{bool_byte}
 use Rattle.std.proofs.lemmas.List.{get_or-set_same, get_or-set_other}
 use Rattle.std.proofs.lemmas.Bool.{cases_eq, true≢false, false≢true, eq-eqb, cond-true}
 use Rattle.model.specs.Closing.{Sound, missing}
@@ -60,6 +61,16 @@ module _ (R : ℕ → Type 0) (N : ℕ → ℕ → ℕ) (K : ℕ → Type 0) whe
         fewer = λ _. elim changed as (λ c. (c ≡ false → list ≡ before) → (c ≡ true → missing list < missing before) → missing (set list m 1) < missing before)
             [ true ↦ λ _ f. omega (arith, f refl) | false ↦ λ e _. omega (arith, ap missing (e refl)) ] p.same p.fewer;
       }
+
+-- One place more of a list that is written from its front.
+pub written_more : (Q : ℕ → ℕ → Type 0) (list : List ℕ) (m v : ℕ) → m < length list → ((k : ℕ) → k < m → Q k (get_or list k 0)) → Q m v → (k : ℕ) → k < m + 1 → Q k (get_or (set list m v) k 0)
+written_more Q list m v within below here k lt =
+    at_written list m v within (Q k) k (λ e. subst (λ j. Q j v) (sym e) here) (λ ne. below k (omega arith))
+
+-- A test's answer as a byte of such a list.
+pub byte_tells : (b : Bool) (v : ℕ) → v ≡ bool_byte b → Decides b (0 < v)
+byte_tells true v e = (λ _. omega arith, λ _. refl)
+byte_tells false v e = (λ t. absurd (false≢true t), λ h. absurd (omega arith))
 
 decides_from_cases : {P Q : Type 0} (r : Bool) → MatchBool r P Q → (P → Q → ⊥) → Decides r P
 decides_from_cases true p apart = (λ _. p, λ _. refl)

@@ -1,5 +1,5 @@
 -- How a word is read through a table of marks.
-use Rattle.std.specs.Prelude.{ℕ, ◌+◌, ◌*◌, ◌<◌, cond, List, [], ◌∷◌, nat_lt, slice_index}
+use Rattle.std.specs.Prelude.{ℕ, ◌+◌, ◌*◌, ◌<◌, Bool, cond, Decides, List, [], ◌∷◌, nat_lt, slice_index}
 use Rattle.model.specs.declared.sieve.Sieve.{Sieve}
 
 -- A number that is no mark counts as mark 0.
@@ -18,6 +18,10 @@ run table m (s ∷ w) = next table (run table m w) s
 -- The list has a non-zero byte at m.
 abbrev pub Wanted : List ℕ → ℕ → Type 0
 Wanted wanted m = 0 < slice_index wanted m
+
+-- The list wants the marks of which the test holds, and no others.
+abbrev pub WantedWhere : (ℕ → Bool → Type 0) → List ℕ → Type 0
+WantedWhere Says list = (m : ℕ) → m < 2048 → (yes : Bool) × Says m yes × Decides yes (Wanted list m)
 
 -- The word, read from the first mark, ends at a wanted mark.
 abbrev pub Caught : Sieve → List ℕ → Type 0

@@ -1,6 +1,6 @@
 //! Sieves: a table of marks that words are read through.
-ghost use Rattle.std.specs.Prelude.{◌≡◌, ℕ, ◌<◌, ◌↔◌, Decides};
-ghost use Rattle.model.specs.Sieves.{mark, next, run, Wanted, Caught};
+ghost use Rattle.std.specs.Prelude.{◌≡◌, ℕ, ◌<◌, ◌↔◌, Bool, Decides};
+ghost use Rattle.model.specs.Sieves.{mark, next, run, Wanted, WantedWhere, Caught};
 
 /// Marks are below this number.
 pub const MARKS: usize = 2048;
@@ -88,6 +88,28 @@ pub fn wanted_where<T: MarkTest>(test: &T) -> [u8; MARKS]
     let mut wanted = [0; MARKS];
     for (m, byte) in wanted.iter_mut().enumerate() {
         *byte = u8::from(test.holds(m as u16));
+    }
+    wanted
+}
+
+/// A choice of marks, whose contract may leave its answers open; that of a `MarkTest` settles them.
+pub trait MarkChoice {
+    // which answers it may give of a mark
+    ghost may: { Self → ℕ → Bool → Type 0 };
+
+    /// Whether it takes `m`.
+    fn takes(&self, m: u16) -> bool
+        ensures { may self.now m result };
+}
+
+// Kept beside `wanted_where`: each is a loop of one line, and a choice made of a test would be longer.
+/// The marks that the choice takes, as a list of wanted marks.
+pub fn wanted_by<C: MarkChoice>(choice: &C) -> [u8; MARKS]
+    ensures { WantedWhere (C.MarkChoice.may choice.now) result }
+{
+    let mut wanted = [0; MARKS];
+    for (m, byte) in wanted.iter_mut().enumerate() {
+        *byte = u8::from(choice.takes(m as u16));
     }
     wanted
 }

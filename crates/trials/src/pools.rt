@@ -1,10 +1,10 @@
 //! Books, known keys and both, held to words and to sieves.
-ghost use Rattle.std.specs.Prelude.{◌≡◌};
+ghost use Rattle.std.specs.Prelude.{◌≡◌, ◌≤◌, true};
 
 use model::book::Book;
 use model::keys::KnownKeys;
 use model::pools::{Either, Pool};
-use model::sieve::{MarkTest, Sieve, wanted_where};
+use model::sieve::{MarkChoice, MarkTest, Sieve, wanted_by, wanted_where};
 use model::symbols::SymbolSet;
 
 /// Known keys 1 and 2, end F.
@@ -35,6 +35,18 @@ impl MarkTest for Only {
     ghost means = { λ test m. m ≡ test.0 };
 
     fn holds(&self, m: u16) -> bool {
+        m == self.0
+    }
+}
+
+/// Takes one mark, and promises only that it takes none above it.
+#[derive(Clone, Copy)]
+struct UpTo(u16);
+
+impl MarkChoice for UpTo {
+    ghost may = { λ choice m yes. yes ≡ true → m ≤ choice.0 };
+
+    fn takes(&self, m: u16) -> bool {
         m == self.0
     }
 }
@@ -102,6 +114,10 @@ fn marks_of_words(rt: HostRuntime) {
     let wanted = wanted_where(&Only(3));
     assert!(rt; Book(&[3, 2, 1, 15]).meets(wanting(&wanted)));
     assert!(rt; !KEYS.meets(wanting(&wanted_where(&Only(4)))));
+    let wanted = wanted_by(&UpTo(3));
+    assert!(rt; Book(&[3, 2, 1, 15]).meets(wanting(&wanted)));
+    assert!(rt; !Book(&[2, 1, 15]).meets(wanting(&wanted)));
+    assert!(rt; !KEYS.meets(wanting(&wanted_by(&UpTo(4)))));
 }
 
 #[test]
